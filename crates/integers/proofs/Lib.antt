@@ -1,0 +1,5 @@
+pub mod Diff
+pub mod Order
+pub mod Near
+pub mod Machine
+pub mod Floor
