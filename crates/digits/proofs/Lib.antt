@@ -1,0 +1,10 @@
+pub mod Bools
+pub mod Range
+pub mod Value
+pub mod Places
+pub mod Loss
+pub mod Expansion
+pub mod Offset
+pub mod Words
+pub mod Fewest
+pub mod Examples
