@@ -1,0 +1,167 @@
+//! The card's header: "seven lines, key=value, each ended by byte 10".
+
+use super::digits::MOST_DIGITS;
+use super::planes::{cells_in, CELL_BYTES};
+use super::predict::Curve;
+use super::refusal::{self, Refusal};
+use super::sheet::{Shape, MOST_LEVELS, MOST_POINTS};
+use super::steps::LARGEST_STEP;
+
+/// What a header says, with what follows from it at once.
+#[derive(Clone, Debug, PartialEq, Eq)]
+pub struct Opened {
+    pub rows: u64,
+    pub cols: u64,
+    pub levels: u64,
+    pub curve: Curve,
+    pub step: u64,
+    /// P_k, 1 + 2L of them.
+    pub planes: Vec<u64>,
+    pub cells: u64,
+    /// Bytes of the seven lines with their ends.
+    pub header_length: usize,
+    /// Points of each layer, from the shape.
+    pub points: Vec<u64>,
+}
+
+impl Opened {
+    pub fn shape(&self) -> Shape {
+        Shape {
+            rows: self.rows,
+            cols: self.cols,
+            levels: self.levels,
+        }
+    }
+
+    /// The header bytes that say just this.
+    pub fn print(&self) -> Vec<u8> {
+        print(
+            self.shape(),
+            self.curve,
+            self.step,
+            &self.planes,
+            self.cells,
+        )
+    }
+}
+
+/// The seven lines: "rows, cols, levels, curve, step, planes, cells".
+pub fn print(shape: Shape, curve: Curve, step: u64, planes: &[u64], cells: u64) -> Vec<u8> {
+    let curve = match curve {
+        Curve::Linear => "linear",
+        Curve::Cubic => "cubic",
+    };
+    let planes: Vec<String> = planes.iter().map(u64::to_string).collect();
+    let lines = [
+        format!("rows={}", shape.rows),
+        format!("cols={}", shape.cols),
+        format!("levels={}", shape.levels),
+        format!("curve={curve}"),
+        format!("step={step}"),
+        format!("planes={}", planes.join(",")),
+        format!("cells={cells}"),
+    ];
+    lines
+        .iter()
+        .flat_map(|line| [line.as_bytes(), &[10]].concat())
+        .collect()
+}
+
+/// "Decimal, no sign, no leading zero (zero is the one character 0)", at most `most`.
+/// A number too long for u64 fails to parse, so it is wrong and never wraps.
+fn number(text: &[u8], most: u64) -> Option<u64> {
+    let all_digits = !text.is_empty() && text.iter().all(u8::is_ascii_digit);
+    let leading_zero = text.len() > 1 && text[0] == b'0';
+    if !all_digits || leading_zero {
+        return None;
+    }
+    let value: u64 = std::str::from_utf8(text).ok()?.parse().ok()?;
+    (value <= most).then_some(value)
+}
+
+/// The number of a line `key=number`.
+fn keyed_number(line: &[u8], key: &str, most: u64) -> Option<u64> {
+    number(line.strip_prefix(key.as_bytes())?, most)
+}
+
+/// "a size of 0 or above 8,192" is wrong on its own line.
+fn size(line: &[u8], key: &str) -> Option<u64> {
+    keyed_number(line, key, MOST_POINTS).filter(|&size| size > 0)
+}
+
+fn curve_line(line: &[u8]) -> Option<Curve> {
+    match line {
+        b"curve=linear" => Some(Curve::Linear),
+        b"curve=cubic" => Some(Curve::Cubic),
+        _ => None,
+    }
+}
+
+/// The counts of line 6, one for each layer; an empty layer has no planes.
+fn planes_line(line: &[u8], points: &[u64]) -> Option<Vec<u64>> {
+    let list = line.strip_prefix(b"planes=")?;
+    let counts: Option<Vec<u64>> = list
+        .split(|&byte| byte == b',')
+        .map(|text| number(text, MOST_DIGITS))
+        .collect();
+    let counts = counts?;
+    let right_number = counts.len() == points.len();
+    let empty_layer_has_planes = counts
+        .iter()
+        .zip(points)
+        .any(|(&count, &points)| points == 0 && count > 0);
+    (right_number && !empty_layer_has_planes).then_some(counts)
+}
+
+/// Takes the next line off the bytes. "Lines are taken in turn, 5 before 6 in each."
+fn take_line<T>(
+    rest: &mut &[u8],
+    line_number: u64,
+    check: impl FnOnce(&[u8]) -> Option<T>,
+) -> Result<T, Refusal> {
+    let end = rest
+        .iter()
+        .position(|&byte| byte == 10)
+        .ok_or(Refusal::plain(refusal::HEADER_CUT))?;
+    let line = &rest[..end];
+    *rest = &rest[end + 1..];
+    check(line).ok_or(Refusal::with(refusal::HEADER_LINE, line_number))
+}
+
+/// "Opening a card, first step of every operation but writing."
+pub fn open(card: &[u8]) -> Result<Opened, Refusal> {
+    let mut rest = card;
+    let rows = take_line(&mut rest, 1, |line| size(line, "rows="))?;
+    // "the product of sizes to line 2"
+    let cols = take_line(&mut rest, 2, |line| {
+        size(line, "cols=").filter(|&cols| rows * cols <= MOST_POINTS)
+    })?;
+    let levels = take_line(&mut rest, 3, |line| {
+        keyed_number(line, "levels=", MOST_LEVELS)
+    })?;
+    let curve = take_line(&mut rest, 4, curve_line)?;
+    let step = take_line(&mut rest, 5, |line| {
+        keyed_number(line, "step=", LARGEST_STEP)
+    })?;
+    let points = Shape { rows, cols, levels }.layer_counts();
+    let planes = take_line(&mut rest, 6, |line| planes_line(line, &points))?;
+    // "a wrong total to line 7"
+    let total = cells_in(&planes, &points);
+    let cells = take_line(&mut rest, 7, |line| {
+        keyed_number(line, "cells=", total).filter(|&cells| cells == total)
+    })?;
+    if rest.len() as u64 > cells * CELL_BYTES {
+        return Err(Refusal::plain(refusal::BYTES_AFTER));
+    }
+    Ok(Opened {
+        rows,
+        cols,
+        levels,
+        curve,
+        step,
+        planes,
+        cells,
+        header_length: card.len() - rest.len(),
+        points,
+    })
+}

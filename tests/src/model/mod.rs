@@ -1,0 +1,24 @@
+//! The model, one file for each idea of document 01.
+
+pub mod digits;
+pub mod figure;
+pub mod header;
+pub mod plan;
+pub mod planes;
+pub mod planner;
+pub mod predict;
+pub mod program;
+pub mod read;
+pub mod refusal;
+pub mod sheet;
+pub mod steps;
+pub mod write;
+
+pub use figure::figure;
+pub use header::{open, Opened};
+pub use plan::{Plan, MAX_LAYERS};
+pub use planner::{plan_by_cells, plan_by_limit, Planned};
+pub use predict::Curve;
+pub use read::{read, refine, show, Reached};
+pub use refusal::Refusal;
+pub use write::write;

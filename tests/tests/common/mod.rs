@@ -1,0 +1,157 @@
+//! Second ways of getting what the model says, written apart from it.
+
+// Each test file uses some of these.
+#![allow(dead_code)]
+
+use trace_card_tests::model::{Curve, Opened, Plan, Refusal, MAX_LAYERS};
+
+pub fn refusal(number: u64, details: [u64; 2]) -> Refusal {
+    Refusal { number, details }
+}
+
+/// A plan of these first places, 0 after them.
+pub fn plan(first: &[u64]) -> Plan {
+    let mut plan = [0; MAX_LAYERS];
+    plan[..first.len()].copy_from_slice(first);
+    plan
+}
+
+/// The power of two in a row or column number, no higher than the levels.
+fn power(number: u64, levels: u64) -> u64 {
+    u64::from(number.trailing_zeros()).min(levels)
+}
+
+/// The layer of a point, from the powers of two in its row and column: the lower of the
+/// two tells the spacing, and a row with the higher one stands across.
+pub fn layer_of(levels: u64, row: u64, col: u64) -> usize {
+    let (down, across) = (power(row, levels), power(col, levels));
+    let lower = down.min(across);
+    if lower == levels {
+        0
+    } else {
+        let pair = 2 * (levels - 1 - lower);
+        (pair + if down > across { 1 } else { 2 }) as usize
+    }
+}
+
+/// The places in the sheet of each layer's points.
+pub fn layer_places(rows: u64, cols: u64, levels: u64) -> Vec<Vec<usize>> {
+    let mut places = vec![Vec::new(); 1 + 2 * levels as usize];
+    for place in 0..(rows * cols) as usize {
+        let (row, col) = (place as u64 / cols, place as u64 % cols);
+        places[layer_of(levels, row, col)].push(place);
+    }
+    places
+}
+
+/// The layer, place p, first byte and end of each plane, in card order.
+pub fn planes_on_card(opened: &Opened) -> Vec<(usize, u64, usize, usize)> {
+    let places = layer_places(opened.rows, opened.cols, opened.levels);
+    let mut planes: Vec<(u64, usize)> = Vec::new();
+    for (layer, &count) in opened.planes.iter().enumerate() {
+        planes.extend((0..count).map(|p| (p, layer)));
+    }
+    planes.sort_by_key(|&(p, layer)| (22 - p, layer));
+    let mut at = opened.header_length;
+    let mut found = Vec::new();
+    for (p, layer) in planes {
+        let end = at + 32 * places[layer].len().div_ceil(256);
+        found.push((layer, p, at, end));
+        at = end;
+    }
+    found
+}
+
+/// Planes whole in the first `length` bytes.
+pub fn whole_in(opened: &Opened, length: usize) -> Plan {
+    let mut whole = [0; MAX_LAYERS];
+    for (layer, _, _, end) in planes_on_card(opened) {
+        if end <= length {
+            whole[layer] += 1;
+        }
+    }
+    whole
+}
+
+/// The most that d digits can add up to: every other place from the top one down.
+pub fn loss_by_hand(d: u64) -> u64 {
+    (0..d)
+        .filter(|p| (d - 1 - p).is_multiple_of(2))
+        .map(|p| 1 << p)
+        .sum()
+}
+
+/// What stands after the first layers, seen from the last of them.
+fn standing(opened: &Opened, sizes: &[usize], plan: &Plan, layer: usize) -> u64 {
+    let own = loss_by_hand(opened.planes[layer] - plan[layer]) * (2 * opened.step + 1);
+    if layer == 0 {
+        return own;
+    }
+    let before = standing(opened, sizes, plan, layer - 1);
+    match (sizes[layer], opened.curve) {
+        (0, _) => before,
+        (_, Curve::Linear) => before + own,
+        // 5M/4 rounded up is M and a quarter of it, the quarter rounded up.
+        (_, Curve::Cubic) => before + before.div_ceil(4) + own,
+    }
+}
+
+/// The points of each layer, counted without the model.
+pub fn sizes_of(opened: &Opened) -> Vec<usize> {
+    layer_places(opened.rows, opened.cols, opened.levels)
+        .iter()
+        .map(Vec::len)
+        .collect()
+}
+
+pub fn figure_by_hand(opened: &Opened, sizes: &[usize], plan: &Plan) -> u64 {
+    opened.step + standing(opened, sizes, plan, sizes.len() - 1)
+}
+
+pub fn cells_by_hand(sizes: &[usize], plan: &Plan) -> u64 {
+    sizes
+        .iter()
+        .zip(plan)
+        .map(|(&size, &planes)| planes * size.div_ceil(256) as u64)
+        .sum()
+}
+
+/// Every plan of a card.
+pub fn every_plan(opened: &Opened) -> Vec<Plan> {
+    let mut plans = vec![[0; MAX_LAYERS]];
+    for (layer, &count) in opened.planes.iter().enumerate() {
+        plans = plans
+            .into_iter()
+            .flat_map(|plan| {
+                (0..=count).map(move |planes| {
+                    let mut plan = plan;
+                    plan[layer] = planes;
+                    plan
+                })
+            })
+            .collect();
+    }
+    plans
+}
+
+/// Does the first plan come before the second in the last of the ties: "from the last
+/// layer backwards, fewer planes"?
+pub fn fewer_backwards(first: &Plan, second: &Plan) -> bool {
+    for layer in (0..MAX_LAYERS).rev() {
+        if first[layer] != second[layer] {
+            return first[layer] < second[layer];
+        }
+    }
+    false
+}
+
+/// The greatest distance between values and samples.
+pub fn furthest(values: &[i64], samples: &[i32]) -> u64 {
+    assert_eq!(values.len(), samples.len());
+    values
+        .iter()
+        .zip(samples)
+        .map(|(&value, &sample)| value.abs_diff(i64::from(sample)))
+        .max()
+        .unwrap()
+}

@@ -1,0 +1,232 @@
+//! The parts of the model against second ways of getting the same.
+
+mod common;
+
+use common::{layer_of, layer_places, loss_by_hand, planes_on_card};
+use trace_card_tests::model::digits::{digits_of, weight};
+use trace_card_tests::model::figure::{carry, loss};
+use trace_card_tests::model::predict::{cubic, linear};
+use trace_card_tests::model::sheet::Shape;
+use trace_card_tests::model::{open, Curve};
+use trace_card_tests::random::cases::{Case, Written, LARGE_SIZES};
+use trace_card_tests::random::sheets::KINDS;
+use trace_card_tests::random::Random;
+
+#[test]
+fn every_point_is_in_its_one_layer() {
+    let sizes = [(1, 1), (1, 70), (70, 1), (9, 17), (64, 128), (90, 91)];
+    for (rows, cols) in sizes {
+        for levels in 0..=6 {
+            let shape = Shape { rows, cols, levels };
+            let expected = layer_places(rows, cols, levels);
+            let layers = shape.layers();
+            assert_eq!(layers.len() as u64, 1 + 2 * levels);
+            let found: Vec<Vec<usize>> = layers
+                .iter()
+                .map(|&layer| {
+                    let points = shape.points_of(layer);
+                    points.iter().map(|&point| shape.place(point)).collect()
+                })
+                .collect();
+            assert_eq!(found, expected, "{rows} by {cols}, {levels} levels");
+            let held: usize = found.iter().map(Vec::len).sum();
+            assert_eq!(held, shape.count());
+        }
+    }
+}
+
+#[test]
+fn digits_are_the_only_ones_for_their_sum() {
+    // Every group of up to 12 digits with a 1 on top has its own sum.
+    for length in 0..=12_u32 {
+        let groups = if length == 0 {
+            0..1
+        } else {
+            1 << (length - 1)..1_u32 << length
+        };
+        for group in groups {
+            let digits: Vec<u8> = (0..length).map(|p| (group >> p & 1) as u8).collect();
+            let sum = (0..length).map(|p| i64::from(digits[p as usize]) * (-2_i64).pow(p));
+            assert_eq!(digits_of(sum.sum()), digits);
+        }
+    }
+}
+
+#[test]
+fn digits_add_up_to_their_number() {
+    let mut random = Random::new(101);
+    for _ in 0..20_000 {
+        let q = random.between(-2_796_202, 5_592_405);
+        let digits = digits_of(q);
+        let sum: i64 = digits
+            .iter()
+            .enumerate()
+            .map(|(p, &digit)| i64::from(digit) * weight(p as u64))
+            .sum();
+        assert_eq!(sum, q);
+        assert!(digits.len() <= 23);
+    }
+}
+
+#[test]
+fn loss_is_the_most_that_digits_can_be() {
+    for d in 0..=16_u32 {
+        let most = (0..1_u32 << d)
+            .map(|group| {
+                let digits = (0..d).filter(|p| group >> p & 1 == 1);
+                digits.map(|p| (-2_i64).pow(p)).sum::<i64>().unsigned_abs()
+            })
+            .max();
+        assert_eq!(Some(loss(u64::from(d))), most);
+    }
+    for d in 0..=23 {
+        assert_eq!(loss(d), loss_by_hand(d));
+    }
+}
+
+#[test]
+fn divisions_round_down_and_carries_up() {
+    let mut random = Random::new(102);
+    for _ in 0..20_000 {
+        let [a, b, c, d] = [(); 4].map(|()| random.between(-2_000_000, 2_000_000));
+        let sixteenths = -a + 9 * b + 9 * c - d;
+        let predicted = cubic(a, b, c, d);
+        assert!(16 * predicted <= sixteenths && sixteenths < 16 * (predicted + 1));
+        let halves = b + c;
+        let predicted = linear(b, c);
+        assert!(2 * predicted <= halves && halves < 2 * (predicted + 1));
+        let standing = random.below(1 << 40);
+        let carried = carry(Curve::Cubic, standing);
+        assert!(4 * carried >= 5 * standing && 4 * carried < 5 * standing + 4);
+    }
+}
+
+/// The prediction of a point from the values as they stand at the end: those it looks at
+/// do not change any more once it is reached.
+fn prediction(case: &Case, values: &[i64], row: u64, col: u64) -> i64 {
+    let layer = layer_of(case.levels, row, col) as u64;
+    if layer == 0 {
+        return 0;
+    }
+    let s = 1_i64 << (case.levels - layer.div_ceil(2));
+    let across = layer % 2 == 1;
+    let (along, length) = if across {
+        (col as i64, case.cols as i64)
+    } else {
+        (row as i64, case.rows as i64)
+    };
+    let at = |along: i64| {
+        let place = if across {
+            row as i64 * case.cols as i64 + along
+        } else {
+            along * case.cols as i64 + col as i64
+        };
+        values[place as usize]
+    };
+    let before = at(along - s);
+    if along + s >= length {
+        before
+    } else if case.curve == Curve::Linear || along < 3 * s || along + 3 * s >= length {
+        (before + at(along + s)) >> 1
+    } else {
+        let outer = at(along - 3 * s) + at(along + 3 * s);
+        (9 * (before + at(along + s)) - outer) >> 4
+    }
+}
+
+/// The fewest digits whose reach holds every q, by the ends of that reach.
+fn digits_reaching(coefficients: &[i64]) -> u64 {
+    let (mut digits, mut least, mut greatest) = (0, 0, 0);
+    while coefficients.iter().any(|&q| q < least || q > greatest) {
+        let weight = 1 << digits;
+        if digits % 2 == 0 {
+            greatest += weight;
+        } else {
+            least -= weight;
+        }
+        digits += 1;
+    }
+    digits
+}
+
+fn check_by_the_rules(case: &Case, written: &Written) {
+    let e = case.step as i64;
+    let w = 2 * e + 1;
+    for row in 0..case.rows {
+        for col in 0..case.cols {
+            let place = (row * case.cols + col) as usize;
+            let predicted = prediction(case, &written.values, row, col);
+            let q = i64::from(written.coefficients[place]);
+            let over = i64::from(case.samples[place]) - predicted + e - q * w;
+            assert!((0..w).contains(&over), "q is rounded down");
+            assert_eq!(written.values[place], predicted + q * w);
+        }
+    }
+
+    let opened = open(&written.card).unwrap();
+    let layers = layer_places(case.rows, case.cols, case.levels);
+    for (layer, places) in layers.iter().enumerate() {
+        let of_layer: Vec<i64> = places
+            .iter()
+            .map(|&place| i64::from(written.coefficients[place]))
+            .collect();
+        assert_eq!(opened.planes[layer], digits_reaching(&of_layer));
+    }
+
+    // The bits on the card add up to the coefficients, and there are no others.
+    let mut sums = vec![0_i64; case.count()];
+    let mut end_of_last = opened.header_length;
+    for (layer, p, start, end) in planes_on_card(&opened) {
+        for (i, &place) in layers[layer].iter().enumerate() {
+            let bit = written.card[start + i / 8] >> (i % 8) & 1;
+            sums[place] += i64::from(bit) * (-2_i64).pow(p as u32);
+        }
+        for spare in layers[layer].len()..8 * (end - start) {
+            assert_eq!(written.card[start + spare / 8] >> (spare % 8) & 1, 0);
+        }
+        end_of_last = end;
+    }
+    let expected: Vec<i64> = written.coefficients.iter().map(|&q| i64::from(q)).collect();
+    assert_eq!(sums, expected);
+    assert_eq!(end_of_last, written.card.len());
+}
+
+#[test]
+fn small_cards_follow_the_rules() {
+    let mut random = Random::new(103);
+    for _ in 0..1500 {
+        let case = Case::small(&mut random);
+        check_by_the_rules(&case, &case.write());
+    }
+}
+
+#[test]
+fn large_cards_follow_the_rules() {
+    let mut random = Random::new(104);
+    for (rows, cols) in LARGE_SIZES {
+        for kind in KINDS {
+            let case = Case::of_kind(&mut random, kind, rows, cols);
+            check_by_the_rules(&case, &case.write());
+        }
+    }
+}
+
+#[test]
+fn the_widest_coefficients_need_all_digits() {
+    // The ends of the range around a point at the other end: 20/16 of 1,048,575 is
+    // 1,310,718.75, which is rounded down below 0 and the sample stands 1,048,575 above.
+    let m = 1_048_575;
+    let case = Case {
+        rows: 1,
+        cols: 7,
+        levels: 1,
+        curve: Curve::Cubic,
+        step: 0,
+        samples: vec![m, 0, -m, m, -m, 0, m],
+    };
+    let written = case.write();
+    assert_eq!(written.coefficients[3], 1_310_719 + m);
+    let opened = open(&written.card).unwrap();
+    assert_eq!(opened.planes, [22, 23, 0]);
+    check_by_the_rules(&case, &written);
+}

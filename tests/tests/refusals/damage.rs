@@ -1,0 +1,95 @@
+//! Damaged headers: whatever opens is a right header.
+
+use super::bench_card;
+use super::common::planes_on_card;
+use trace_card_tests::model::open;
+use trace_card_tests::random::cases::Case;
+use trace_card_tests::random::Random;
+
+/// Opening damaged bytes never panics, refuses with 5, 6 or 7 only, and opens nothing that
+/// the header's rules do not allow.
+fn check_damaged(card: &[u8]) -> bool {
+    match open(card) {
+        Ok(opened) => {
+            assert_eq!(opened.print(), card[..opened.header_length]);
+            assert!(opened.rows >= 1 && opened.cols >= 1);
+            assert!(opened.rows * opened.cols <= 8192);
+            assert!(opened.levels <= 6 && opened.step <= 65_535);
+            assert_eq!(opened.planes.len() as u64, 1 + 2 * opened.levels);
+            assert!(opened.planes.iter().all(|&planes| planes <= 23));
+            let end = planes_on_card(&opened).last().map(|&(.., end)| end);
+            let end = end.unwrap_or(opened.header_length);
+            assert_eq!(end, opened.header_length + 32 * opened.cells as usize);
+            assert!(card.len() <= end);
+            true
+        }
+        Err(refused) => {
+            match refused.number {
+                5 | 7 => assert_eq!(refused.details, [0, 0]),
+                6 => {
+                    assert!((1..=7).contains(&refused.details[0]));
+                    assert_eq!(refused.details[1], 0);
+                }
+                other => panic!("opening refused with {other}"),
+            }
+            false
+        }
+    }
+}
+
+#[test]
+fn headers_damaged_byte_by_byte() {
+    let mut random = Random::new(303);
+    let mut cards = vec![bench_card()];
+    for _ in 0..8 {
+        cards.push(Case::small(&mut random).write().card);
+    }
+    let mut opened_anyway = 0;
+    for card in cards {
+        let header = open(&card).unwrap().header_length;
+        for position in 0..header {
+            for byte in 0..=255 {
+                let mut damaged = card.clone();
+                damaged[position] = byte;
+                opened_anyway += u64::from(check_damaged(&damaged));
+                // The header alone may be the right one of a shorter card.
+                check_damaged(&damaged[..header]);
+            }
+            for byte in [
+                b'0', b'1', b'9', b',', b'=', b'+', b'-', b' ', 10, 13, 0, 255,
+            ] {
+                let mut longer = card.clone();
+                longer.insert(position, byte);
+                check_damaged(&longer);
+            }
+            let mut shorter = card.clone();
+            shorter.remove(position);
+            check_damaged(&shorter);
+            let mut swapped = card.clone();
+            swapped.swap(position, position + usize::from(position + 1 < header));
+            check_damaged(&swapped);
+        }
+    }
+    // Some damage gives another right header, such as another step.
+    assert!(opened_anyway > 100);
+}
+
+#[test]
+fn headers_damaged_in_many_places() {
+    let mut random = Random::new(304);
+    for _ in 0..30_000 {
+        let mut card = bench_card();
+        for _ in 0..1 + random.below(5) {
+            let position = random.below(64) as usize;
+            card[position] = match random.below(4) {
+                0 => random.draw() as u8,
+                1 => b'0' + random.below(10) as u8,
+                2 => card[random.below(64) as usize],
+                _ => random.pick(b"=,\n"),
+            };
+        }
+        let length = random.below(card.len() as u64 + 1) as usize;
+        check_damaged(&card);
+        check_damaged(&card[..length]);
+    }
+}

@@ -1,0 +1,310 @@
+//! Opening's refusals: 5, 6 with its line, and 7.
+
+use super::common::refusal;
+use super::{all_refuse, bench_card, bench_with_line, card_of, BENCH_CELLS, BENCH_LINES};
+use trace_card_tests::model::{open, Curve};
+use trace_card_tests::random::cases::Case;
+use trace_card_tests::random::Random;
+
+#[test]
+fn a_cut_in_the_header_gives_5() {
+    let mut random = Random::new(301);
+    let mut cards = vec![bench_card()];
+    for _ in 0..10 {
+        cards.push(Case::small(&mut random).write().card);
+    }
+    for card in cards {
+        let header = open(&card).unwrap().header_length;
+        for length in 0..header {
+            all_refuse(&card[..length], refusal(5, [0, 0]));
+        }
+        assert!(open(&card[..header]).is_ok());
+    }
+}
+
+#[test]
+fn a_line_without_its_end_gives_5_before_6() {
+    // The line is wrong as well, but its byte 10 is looked for first.
+    for number in 1..=7 {
+        let mut card = card_of(&BENCH_LINES[..number - 1], &[]);
+        card.extend(b"wrong");
+        all_refuse(&card, refusal(5, [0, 0]));
+        // An earlier wrong line comes before a later cut, and its end makes it wrong.
+        card.push(10);
+        all_refuse(&card, refusal(6, [number as u64, 0]));
+        card.extend(b"rows=");
+        all_refuse(&card, refusal(6, [number as u64, 0]));
+    }
+    all_refuse(b"", refusal(5, [0, 0]));
+    all_refuse(&[b'1'; 100_000], refusal(5, [0, 0]));
+    all_refuse(b"\n", refusal(6, [1, 0]));
+}
+
+/// Wrong ways to write the number that a line holds.
+fn wrong_numbers(key: &str, right: &str) -> Vec<Vec<u8>> {
+    let two_to_the_64th: u128 = 1 << 64;
+    let wrapped = two_to_the_64th + right.parse::<u128>().unwrap();
+    let wrapped_32 = (1_u128 << 32) + right.parse::<u128>().unwrap();
+    let mut lines: Vec<Vec<u8>> = [
+        format!("{key}="),
+        key.to_string(),
+        String::new(),
+        format!("{key}=0{right}"),
+        format!("{key}=00000000000000000000000000000000000000000{right}"),
+        format!("{key}=00"),
+        format!("{key}=+{right}"),
+        format!("{key}=-{right}"),
+        format!("{key}=-0"),
+        format!("{key}= {right}"),
+        format!("{key}={right} "),
+        format!("{key} ={right}"),
+        format!(" {key}={right}"),
+        format!("{key}={right}\r"),
+        format!("{key}={right}\0"),
+        format!("{key}={right},"),
+        format!("{key}={right}.0"),
+        format!("{key}={right}_"),
+        format!("{key}={right}e0"),
+        format!("{key}=0x{right}"),
+        format!("{key}=={right}"),
+        format!("{key}:{right}"),
+        format!("{key}{right}"),
+        format!("{}={right}", key.to_uppercase()),
+        format!("x{key}={right}"),
+        format!("{key}x={right}"),
+        format!("{key}={right}x"),
+        format!("{key}=a"),
+        format!("{key}=/"),
+        format!("{key}=:"),
+        format!("{key}={wrapped}"),
+        format!("{key}={wrapped_32}"),
+        format!("{key}={}", u64::MAX),
+        format!("{key}={}", u128::MAX),
+        format!("{key}={}", "9".repeat(40)),
+        format!("{key}={}", "1".repeat(3000)),
+        // Digits of another script.
+        format!("{key}=\u{661}"),
+    ]
+    .map(String::into_bytes)
+    .to_vec();
+    lines.push([key.as_bytes(), b"=\xFF"].concat());
+    lines.push([key.as_bytes(), b"=", right.as_bytes(), b"\xC3"].concat());
+    lines
+}
+
+#[test]
+fn wrong_numbers_give_6_with_their_line() {
+    let numbers = [
+        (1, "rows", "1", ["0", "8193"]),
+        (2, "cols", "5", ["0", "8193"]),
+        (3, "levels", "1", ["7", "10"]),
+        (5, "step", "1", ["65536", "70000"]),
+        (7, "cells", "6", ["5", "7"]),
+    ];
+    for (line, key, right, past) in numbers {
+        let as_it_was = bench_with_line(line, format!("{key}={right}").as_bytes());
+        assert!(open(&as_it_was).is_ok());
+        let mut wrong = wrong_numbers(key, right);
+        wrong.extend(past.map(|number| format!("{key}={number}").into_bytes()));
+        for text in wrong {
+            all_refuse(&bench_with_line(line, &text), refusal(6, [line as u64, 0]));
+        }
+    }
+}
+
+#[test]
+fn sizes_at_their_ends() {
+    let header = |rows: u64, cols: u64| {
+        let lines = [
+            format!("rows={rows}"),
+            format!("cols={cols}"),
+            "levels=0".to_string(),
+            "curve=cubic".to_string(),
+            "step=65535".to_string(),
+            "planes=0".to_string(),
+            "cells=0".to_string(),
+        ];
+        let lines: Vec<&[u8]> = lines.iter().map(String::as_bytes).collect();
+        card_of(&lines, &[])
+    };
+    for (rows, cols) in [(1, 1), (1, 8192), (8192, 1), (64, 128), (90, 91)] {
+        let opened = open(&header(rows, cols)).unwrap();
+        assert_eq!((opened.rows, opened.cols), (rows, cols));
+    }
+    for (rows, cols) in [(2, 8192), (8192, 2), (8192, 8192), (91, 91), (3, 2731)] {
+        all_refuse(&header(rows, cols), refusal(6, [2, 0]));
+    }
+    // Each size has its own line, and the first wrong line is given.
+    for (rows, cols) in [(0, 0), (0, 8193), (8193, 0), (8193, 8193)] {
+        all_refuse(&header(rows, cols), refusal(6, [1, 0]));
+    }
+}
+
+#[test]
+fn wrong_curves_give_6() {
+    for text in [
+        "curve=",
+        "curve",
+        "",
+        "curve=Linear",
+        "curve=LINEAR",
+        "curve=linear ",
+        "curve= linear",
+        "curve=linea",
+        "curve=linearr",
+        "curve=linear\r",
+        "curve=cubic,",
+        "curve=cubics",
+        "curve=0",
+        "curve=linear,cubic",
+        "Curve=cubic",
+        "linear",
+    ] {
+        all_refuse(&bench_with_line(4, text.as_bytes()), refusal(6, [4, 0]));
+    }
+    let cubic = open(&bench_with_line(4, b"curve=cubic")).unwrap();
+    assert_eq!(cubic.curve, Curve::Cubic);
+}
+
+#[test]
+fn wrong_counts_give_6() {
+    for text in [
+        // A wrong number of counts.
+        "planes=",
+        "planes",
+        "",
+        "planes=5",
+        "planes=5,1",
+        "planes=5,1,0,0",
+        "planes=5,1,0,0,0",
+        "planes=5,1,",
+        "planes=5,1,0,",
+        "planes=,5,1,0",
+        "planes=,1,0",
+        "planes=5,,0",
+        "planes=,,",
+        // Counts over 23, of any length.
+        "planes=24,1,0",
+        "planes=5,24,0",
+        "planes=5,1,24",
+        "planes=261,1,0",
+        "planes=18446744073709551621,1,0",
+        "planes=5,1,9999999999999999999999999999999999999999",
+        // A count above 0 for an empty layer: one row has no layer down.
+        "planes=5,1,1",
+        "planes=5,0,1",
+        // Numbers wrongly written.
+        "planes=05,1,0",
+        "planes=5,01,0",
+        "planes=5,1,00",
+        "planes=+5,1,0",
+        "planes=5,1,-0",
+        "planes=5,1,0 ",
+        "planes=5, 1,0",
+        "planes= 5,1,0",
+        "planes=5;1;0",
+        "planes=5 1 0",
+        "planes=5,1,0\r",
+        "planes=5,1,x",
+        "Planes=5,1,0",
+        "planes==5,1,0",
+    ] {
+        all_refuse(&bench_with_line(6, text.as_bytes()), refusal(6, [6, 0]));
+    }
+    // A wrong count of cells for other planes belongs to line 7, as the planes are right.
+    for text in ["planes=4,1,0", "planes=5,2,0", "planes=23,23,0"] {
+        all_refuse(&bench_with_line(6, text.as_bytes()), refusal(6, [7, 0]));
+    }
+}
+
+#[test]
+fn wrong_totals_give_6_at_line_7() {
+    // 257 points need two cells a plane, 256 need one.
+    for (cols, planes, total) in [(256, 3, 3), (257, 3, 6), (8192, 23, 736)] {
+        for cells in [0, 1, total - 1, total, total + 1, 32 * total, 1012, 1013] {
+            let lines = [
+                "rows=1".to_string(),
+                format!("cols={cols}"),
+                "levels=0".to_string(),
+                "curve=linear".to_string(),
+                "step=0".to_string(),
+                format!("planes={planes}"),
+                format!("cells={cells}"),
+            ];
+            let lines: Vec<&[u8]> = lines.iter().map(String::as_bytes).collect();
+            let card = card_of(&lines, &[]);
+            if cells == total {
+                assert_eq!(open(&card).unwrap().cells, total);
+            } else {
+                all_refuse(&card, refusal(6, [7, 0]));
+            }
+        }
+    }
+}
+
+#[test]
+fn lines_missing_doubled_or_swapped_give_6() {
+    for number in 1..=7 {
+        let mut missing = BENCH_LINES.to_vec();
+        missing.remove(number - 1);
+        // Without line 7 the bytes of the cells stand in its place; they hold no byte 10.
+        let expected = if number == 7 {
+            refusal(5, [0, 0])
+        } else {
+            refusal(6, [number as u64, 0])
+        };
+        all_refuse(&card_of(&missing, &BENCH_CELLS), expected);
+        let mut empty = BENCH_LINES.to_vec();
+        empty.insert(number - 1, b"");
+        all_refuse(
+            &card_of(&empty, &BENCH_CELLS),
+            refusal(6, [number as u64, 0]),
+        );
+        if number < 7 {
+            let mut doubled = BENCH_LINES.to_vec();
+            doubled.insert(number, BENCH_LINES[number - 1]);
+            let next = refusal(6, [number as u64 + 1, 0]);
+            all_refuse(&card_of(&doubled, &BENCH_CELLS), next);
+            let mut swapped = BENCH_LINES.to_vec();
+            swapped.swap(number - 1, number);
+            let here = refusal(6, [number as u64, 0]);
+            all_refuse(&card_of(&swapped, &BENCH_CELLS), here);
+        }
+    }
+}
+
+#[test]
+fn bytes_after_the_last_cell_give_7() {
+    let mut random = Random::new(302);
+    let mut cards = vec![bench_card()];
+    for _ in 0..10 {
+        cards.push(Case::small(&mut random).write().card);
+    }
+    // A card of no cells.
+    cards.push(card_of(
+        &[
+            b"rows=1",
+            b"cols=1",
+            b"levels=6",
+            b"curve=cubic",
+            b"step=0",
+            b"planes=0,0,0,0,0,0,0,0,0,0,0,0,0",
+            b"cells=0",
+        ],
+        &[],
+    ));
+    for card in cards {
+        assert!(open(&card).is_ok());
+        for more in [1, 31, 32, 33, 40_000] {
+            let mut longer = card.clone();
+            longer.extend(vec![0; more]);
+            all_refuse(&longer, refusal(7, [0, 0]));
+            longer[card.len()..].fill(10);
+            all_refuse(&longer, refusal(7, [0, 0]));
+        }
+    }
+    // A doubled last line makes the cells too many.
+    let mut doubled = BENCH_LINES.to_vec();
+    doubled.push(b"cells=6");
+    all_refuse(&card_of(&doubled, &BENCH_CELLS), refusal(7, [0, 0]));
+}
