@@ -7,7 +7,7 @@ use native.Mathlib.Omega.{arith}
 use native.Mathlib.Nat as NatL
 use lib.IntN.{ℤ, natAbs}
 use Rattle.digits.specs.Digits.{digitAt, holds, firstFrom, fewest}
-use Rattle.digits.proofs.Bools.{by, cond-yes, cond-no}
+use Rattle.integers.proofs.Bools.{by, cond-yes, cond-no}
 use Rattle.digits.proofs.Range.{Holds, holds-yes, holds-by, holds-up, holds-enough}
 use Rattle.digits.proofs.Expansion.{digit-past, top-digit}
 

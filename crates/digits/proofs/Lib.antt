@@ -1,4 +1,3 @@
-pub mod Bools
 pub mod Range
 pub mod Value
 pub mod Places

@@ -17,7 +17,7 @@ use Rattle.integers.proofs.Diff.{#, lit, _⊖_, ⊟, _⊡_}
 use Rattle.integers.proofs.Order.{le-by}
 use Rattle.integers.proofs.Machine.{le-test, sfits-at}
 use Rattle.digits.specs.Digits.{value, Binary, evens, odds, holds}
-use Rattle.digits.proofs.Bools.{and-left, and-right, and-both, is-true}
+use Rattle.integers.proofs.Bools.{and-left, and-right, and-both, is-true}
 
 -- ---- the weights of the even and of the odd places
 pub weights : (n : ℕ) → evens n + odds n + 1 ≡ 2 ^ n

@@ -1,3 +1,4 @@
+pub mod Bools
 pub mod Diff
 pub mod Order
 pub mod Near

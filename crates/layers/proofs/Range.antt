@@ -1,0 +1,171 @@
+-- The ranges of values, predictions and coefficients, stage by stage: a value written is near its sample, a layer carries a size to at most
+-- five quarters of it, and so the sizes rise by a fixed recursion (`limit`) where the coefficients are any.
+use mathlib.Core.Path.{_≡_, sym, subst}
+use mathlib.Core.Bool.{true}
+use mathlib.Core.List.{List}
+use Prim.Native.Nat.{ℕ, zero, suc, _+_, _-_, _*_, _/_, _%_, _^_, _<_, _≤_}
+use native.Mathlib.Nat.{le-refl, le-trans, mul-le-mul-left}
+use native.Mathlib.Omega.{arith}
+use lib.Arith.{digits-lt, digits-div, digits-mod}
+use lib.IntN.{ℤ, pos}
+use lib.ListN.{length}
+use Rattle.integers.specs.Distance.{up, down, Within, Near}
+use Rattle.integers.specs.Floor.{ceilDiv}
+use Rattle.integers.proofs.Diff.{#, lit, _⊞_, _⊠_}
+use Rattle.integers.proofs.Order.{eq-by}
+use Rattle.integers.proofs.Near.{within-by}
+use Rattle.layers.specs.declared.Shape.{Shape}
+use Rattle.layers.specs.declared.Curve.{Curve}
+use Rattle.layers.specs.declared.Curve.the-variants.{Linear, Cubic}
+use Rattle.layers.specs.Limits.{layersMost, stepMost}
+use Rattle.layers.specs.Lists.{at}
+use Rattle.layers.specs.Sheet.{accepted, points, layers, has, inLayer, direction, spacing}
+use Rattle.layers.specs.Prediction.{width, rebuiltFrom, predicted, predictedAt}
+use Rattle.layers.specs.Layering.{layering, valuesBy, blank, reads, writes, rebuilt, written, coefs}
+use Rattle.layers.specs.Carry.{carried, carry}
+use Rattle.layers.specs.Loops.{writtenMost, predictedMost, valueMost, Below, Samples}
+use Rattle.layers.proofs.Accepting.{accepted-yes}
+use Rattle.layers.proofs.Point.{within-more, rebuilt-carry, coefficient-range}
+use Rattle.layers.proofs.Members.{layer-of}
+use Rattle.layers.proofs.Law.{length-blank, coef-at, stage-near, stage-rel}
+use Rattle.layers.proofs.SheetLaw.{Rule, sheet-carries, sheet-proper}
+use Rattle.layers.proofs.Carry.{carried-up, within-rule, within-near, near-within, sheet-within}
+
+pub written-carried : (c : Curve) → carried c writtenMost ≤ predictedMost
+unfolding carried ceilDiv
+written-carried Linear = omega arith
+written-carried Cubic = omega arith
+
+pub value-carried : (c : Curve) → carried c valueMost ≤ 2 * valueMost
+unfolding carried ceilDiv
+value-carried Linear = omega arith
+value-carried Cubic = omega arith
+
+-- ---- predictions from values of at most m
+module _ (sh : Shape) (ok : accepted sh ≡ true) (curve : Curve) (k : ℕ) (hk : k < layers sh) (vs : List ℤ) where
+  pub predicted-within : (m : ℕ) → Below m sh curve k vs → (r c : ℕ) → r < sh .rows → c < sh .cols → has (sh .levels) k r c ≡ true
+      → Within (carry sh curve k m) (predicted sh curve (direction k) (spacing (sh .levels) k) vs r c)
+  predicted-within m low r c hr hc i = rw (digits-div r hc, digits-mod r hc) at (go (r * sh .cols + c) (digits-lt hr hc) (rw (digits-div r hc, digits-mod r hc) i))
+    where
+      go : (p : ℕ) → p < points sh → has (sh .levels) k (p / sh .cols) (p % sh .cols) ≡ true
+          → Within (carry sh curve k m) (predicted sh curve (direction k) (spacing (sh .levels) k) vs (p / sh .cols) (p % sh .cols))
+      go p hp i′ = unfold predictedAt inLayer in (sheet-within sh ok curve k hk m vs vs low p hp i′)
+
+  -- from values written
+  pub predicted-near : Below writtenMost sh curve k vs → (r c : ℕ) → r < sh .rows → c < sh .cols → has (sh .levels) k r c ≡ true
+      → Within predictedMost (predicted sh curve (direction k) (spacing (sh .levels) k) vs r c)
+  predicted-near low r c hr hc i = within-more (written-carried curve) (predicted-within writtenMost low r c hr hc i)
+
+  -- from any values
+  pub predicted-low : Below valueMost sh curve k vs → (r c : ℕ) → r < sh .rows → c < sh .cols → has (sh .levels) k r c ≡ true
+      → Within (2 * valueMost) (predicted sh curve (direction k) (spacing (sh .levels) k) vs r c)
+  predicted-low low r c hr hc i = within-more (value-carried curve) (predicted-within valueMost low r c hr hc i)
+
+-- ---- samples that are accepted
+module _ {sh : Shape} {e : ℕ} {xs : List ℤ} (ok : Samples sh e xs) (curve : Curve) where
+  -- at every stage a value written is within the step of its sample
+  pub stage-small : (vs : List ℤ) → length vs ≡ points sh → (k : ℕ) → k ≤ layers sh → Below writtenMost sh curve k (valuesBy (layering sh curve) (writes e xs) vs k)
+  stage-small vs l k hk p hp y =
+      let n = stage-near (layering sh curve) (sheet-proper sh (ok .shape) curve) e xs vs l k hk p hp y in
+      let x = ok .small p hp in
+      let s = ok .step in
+      within-by (# (at (valuesBy (layering sh curve) (writes e xs) vs k) p)) (omega arith)
+
+  pub predicted-small : (vs : List ℤ) → length vs ≡ points sh → (k : ℕ) → k < layers sh → (p : ℕ) → p < points sh → inLayer sh k p ≡ true
+      → Within predictedMost (predictedAt sh curve k (valuesBy (layering sh curve) (writes e xs) vs k) p)
+  predicted-small vs l k hk p hp m =
+      let w = valuesBy (layering sh curve) (writes e xs) vs k in
+      within-more (written-carried curve) (sheet-within sh (ok .shape) curve k hk writtenMost w w (stage-small vs l k (omega arith)) p hp m)
+
+  pub written-small : (p : ℕ) → p < points sh → Within writtenMost (at (written (layering sh curve) e xs) p)
+  unfolding written
+  written-small p hp =
+      let Y = layering sh curve in
+      stage-small (blank Y) (length-blank Y) (layers sh) (le-refl _) p hp (sheet-proper sh (ok .shape) curve .all p)
+
+  -- a coefficient is no larger than the distance from the prediction to the sample
+  pub coefs-small : (p : ℕ) → p < points sh → Within 2441215 (at (coefs (layering sh curve) e xs) p)
+  coefs-small p hp =
+      let Y = layering sh curve in
+      let proper = sheet-proper sh (ok .shape) curve in
+      let j = layer-of proper p in
+      subst (Within 2441215) (sym (coef-at Y proper e xs (j .0) p (j .1) hp (j .2)))
+      (coefficient-range (at xs p) (Y .predict (j .0) (valuesBy Y (writes e xs) (blank Y) (j .0)) p) e (ok .small p hp)
+      (predicted-small (blank Y) (length-blank Y) (j .0) (j .1) p hp (j .2)))
+
+  -- "23 digits reach from -2,796,202 to 5,592,405, enough for every accepted sheet"
+  pub coefs-reach : (p : ℕ) → p < points sh → (down (at (coefs (layering sh curve) e xs) p) ≤ 2796202) × (up (at (coefs (layering sh curve) e xs) p) ≤ 5592405)
+  coefs-reach p hp = let w = coefs-small p hp in (omega arith, omega arith)
+
+-- ---- any coefficients of at most B
+-- the values after k layers, at the widest step
+unfoldable pub limit : ℕ → ℕ → ℕ
+limit B zero = 0
+limit B (suc k) = carried Cubic (limit B k) + B * (2 * stepMost + 1)
+
+limit-rises : (B k : ℕ) → limit B k ≤ limit B (suc k)
+unfolding limit
+limit-rises B k = omega (arith, carried-up Cubic (limit B k))
+
+limit-more : (B k j : ℕ) → limit B k ≤ limit B (k + j)
+limit-more B k zero = let e : k + 0 ≡ k = omega arith in rw e (le-refl _)
+limit-more B k (suc j) = let e : k + suc j ≡ suc (k + j) = omega arith in rw e (le-trans (limit-more B k j) (limit-rises B (k + j)))
+
+pub limit-all : (B k n : ℕ) → k ≤ n → limit B k ≤ limit B n
+limit-all B k n h = let e : k + (n - k) ≡ n = omega arith in (rw e at (limit-more B k (n - k)))
+
+pub limit-most : limit (2 ^ 31) layersMost ≤ valueMost
+unfolding limit carried ceilDiv
+limit-most = omega arith
+
+carried-cubic : (c : Curve) (m : ℕ) → carried c m ≤ carried Cubic m
+unfolding carried ceilDiv
+carried-cubic Cubic m = le-refl _
+carried-cubic Linear m = omega arith
+
+size-rule : (c : Curve) (m : ℕ) → Rule c (λ a _. Within m a) (λ a _. Within (carried Cubic m) a)
+size-rule c m =
+    let r = within-rule c m in
+    let w = carried-cubic c m in
+    record {
+      one = λ b b′ x. within-more w (r .one b b′ x);
+      two = λ b d b′ d′ x y. within-more w (r .two b d b′ d′ x y);
+      four = λ t a b d f a′ b′ d′ f′ x y u v. within-more w (r .four t a b d f a′ b′ d′ f′ x y u v);
+    }
+
+product : (B e : ℕ) → e ≤ stepMost → B * width e ≤ B * (2 * stepMost + 1)
+unfolding width
+product B e h = mul-le-mul-left B (omega arith)
+
+zero-rebuilt : (e : ℕ) → rebuiltFrom (pos 0) (pos 0) e ≡ pos 0
+unfolding rebuiltFrom
+zero-rebuilt e = eq-by (lit 0 ⊞ lit 0 ⊠ width e) (lit 0) (omega arith)
+
+module _ (sh : Shape) (ok : accepted sh ≡ true) (curve : Curve) (e : ℕ) (step : e ≤ stepMost) (qs : List ℤ) where
+  -- after k layers every value that a prediction may take is at most limit B k
+  pub stage-limit : (B : ℕ) → ((p : ℕ) → p < points sh → Within B (at qs p)) → (vs : List ℤ) → length vs ≡ points sh → (k : ℕ) → k ≤ layers sh
+      → Below (limit B k) sh curve k (valuesBy (layering sh curve) (reads e qs) vs k)
+  stage-limit B small vs l =
+      stage-rel (layering sh curve) (sheet-proper sh ok curve) e (λ k a b. Within (limit B k) a) (λ k a b. Within (carried Cubic (limit B k)) a) (λ k a b. Within B a)
+      qs qs
+      (λ k hk. sheet-carries sh ok curve (λ a _. Within (limit B k) a) (λ a _. Within (carried Cubic (limit B k)) a) (size-rule curve (limit B k)) k (λ z. record { size = omega arith }) hk)
+      (λ k a b hk r. within-more (limit-rises B k) r)
+      (λ k p y y′ q q′ hk hp m a b. within-more (sum B k) (near-within (subst (Near _ (rebuiltFrom y q e)) (zero-rebuilt e) (rebuilt-carry e (within-near a) (within-near b)))))
+      (λ k p hk hp m. small p hp)
+      vs vs l l
+    where
+      sum : (B k : ℕ) → carried Cubic (limit B k) + B * width e ≤ limit B (suc k)
+      sum B k = unfold limit in (omega (arith, product B e step))
+
+  few : (k : ℕ) → k ≤ layers sh → limit (2 ^ 31) k ≤ valueMost
+  few k hk = le-trans (limit-all (2 ^ 31) k layersMost (omega (arith, accepted-yes sh ok .shallow))) limit-most
+
+  module _ (small : (p : ℕ) → p < points sh → Within (2 ^ 31) (at qs p)) where
+    pub any-limit : (vs : List ℤ) → length vs ≡ points sh → (k : ℕ) → k ≤ layers sh → Below valueMost sh curve k (valuesBy (layering sh curve) (reads e qs) vs k)
+    any-limit vs l k hk p hp y = within-more (few k hk) (stage-limit (2 ^ 31) small vs l k hk p hp y)
+
+    pub values-limit : (p : ℕ) → p < points sh → Within valueMost (at (rebuilt (layering sh curve) e qs) p)
+    unfolding rebuilt
+    values-limit p hp =
+        let Y = layering sh curve in
+        any-limit (blank Y) (length-blank Y) (layers sh) (le-refl _) p hp (sheet-proper sh ok curve .all p)

@@ -1,0 +1,125 @@
+-- How many points a layer has: as many as its grid has rows times columns, by counting row by row, and a row's by the one number of steps
+-- that ends in its last gap. And all layers together have the sheet's points, since every point stands in exactly one.
+use mathlib.Core.Path.{_≡_, refl, sym, ap, ap₂, _∙_}
+use mathlib.Core.Bool.{Bool, true, false, cond, _&&_}
+use Prim.Native.Nat.{ℕ, zero, suc, _+_, _-_, _*_, _/_, _%_, _<_, _≤_}
+use native.Mathlib.Nat.{le-refl, lt-of-mul-lt-mul-right, div-add-mod', mod-lt, add-comm}
+use native.Mathlib.Omega.{arith}
+use lib.Arith.{digits-div, digits-mod}
+use lib.Dec.{ltb, eqb}
+use borrow.Author.Tests.{eqb-true, eqb-false, ltb-true, ltb-false}
+use Rattle.layers.specs.declared.Shape.{Shape}
+use Rattle.layers.specs.declared.Curve.the-variants.{Linear}
+use Rattle.layers.specs.declared.Grid.{Grid}
+use Rattle.layers.specs.declared.Direction.{Direction}
+use Rattle.layers.specs.declared.Direction.the-variants.{Anchor, Across, Down}
+use Rattle.layers.specs.Lists.{count, total}
+use Rattle.layers.specs.Sheet.{accepted, points, layers, direction, spacing, has, inLayer, layerSize}
+use Rattle.layers.specs.Layering.{Layering, Proper, known, layering}
+use Rattle.layers.specs.Loops.{gridFor, gridOf, steps}
+use Rattle.integers.proofs.Bools.{by}
+use Rattle.layers.proofs.Parity.{divided}
+use Rattle.layers.proofs.Lists.{count-same, count-add, count-either, count-empty, count-all}
+use Rattle.layers.proofs.Fits.{spacing-some}
+use Rattle.layers.proofs.Grids.{onGrid, member-grid}
+use Rattle.layers.proofs.SheetLaw.{sheet-proper}
+
+-- ---- along a line: c steps of d from b on end in the last gap before n
+record Ends (b d n c : ℕ) : Type 0 where
+  far : n ≤ b + c * d
+  near : b + c * d < n + d
+
+ends-one : (b d n c c′ : ℕ) → Ends b d n c → Ends b d n c′ → c ≡ c′
+ends-one b d n c c′ e f =
+    let l : c * d < (c′ + 1) * d = omega arith in
+    let r : c′ * d < (c + 1) * d = omega arith in
+    omega (arith, lt-of-mul-lt-mul-right d l, lt-of-mul-lt-mul-right d r)
+
+abbrev rest : ℕ → ℕ → ℕ → Bool
+rest b d x = eqb (x % d) b
+
+count-ends : (b d n : ℕ) → b < d → Ends b d n (count (rest b d) n)
+unfolding count
+count-ends b d zero h = record { far = omega arith; near = omega arith }
+count-ends b d (suc n) h =
+    let c = count (rest b d) n in
+    let i = count-ends b d n h in
+    by (rest b d n)
+    (λ m.
+    let at : n ≡ n / d * d + b = divided n d b (eqb-true (n % d) b m) in
+    let l : n / d * d < (c + 1) * d = omega (arith, i .far) in
+    let r : c * d < (n / d + 1) * d = omega (arith, i .near) in
+    let e : n / d ≡ c = omega (arith, lt-of-mul-lt-mul-right d l, lt-of-mul-lt-mul-right d r) in
+    let here : n ≡ c * d + b = at ∙ ap (λ (q : ℕ). q * d + b) e in
+    rw m (record { far = omega arith; near = omega arith }))
+    (λ m.
+    let other : b + c * d ≡ n → ⊥ = λ e. eqb-false (n % d) b m (ap (λ (x : ℕ). x % d) (sym e ∙ add-comm b (c * d)) ∙ digits-mod c h) in
+    rw m (record { far = omega (arith, i .far, other); near = omega (arith, i .near) }))
+
+steps-ends : (b d n : ℕ) → b < d → Ends b d n (steps b d n)
+unfolding steps
+steps-ends b d n h =
+    by (ltb b n)
+    (λ m.
+    let l : b < n = ltb-true b n m in
+    let x = n - b - 1 in
+    let parts = div-add-mod' x d in
+    let less : x % d < d = mod-lt x (omega arith) in
+    rw m (record { far = omega arith; near = omega arith }))
+    (λ m. let l : n ≤ b = ltb-false b n m in rw m (record { far = omega arith; near = omega arith }))
+
+pub count-steps : (b d n : ℕ) → b < d → count (λ x. eqb (x % d) b) n ≡ steps b d n
+count-steps b d n h = ends-one b d n _ _ (count-ends b d n h) (steps-ends b d n h)
+
+-- ---- row by row
+module _ (t u : ℕ → Bool) (w : ℕ) where
+  one-row : (a : Bool) → count (λ i. a && u i) w ≡ cond a (count u w) 0
+  one-row true = refl
+  one-row false = count-empty w
+
+  pub count-rows : (r : ℕ) → count (λ p. t (p / w) && u (p % w)) (r * w) ≡ count t r * count u w
+  unfolding count
+  count-rows zero = let z : 0 * w ≡ 0 = omega arith in ap (count (λ p. t (p / w) && u (p % w))) z ∙ omega arith
+  count-rows (suc r) =
+      let both : ℕ → Bool = λ p. t (p / w) && u (p % w) in
+      let e : suc r * w ≡ r * w + w = omega arith in
+      let row : count (λ i. both (r * w + i)) w ≡ cond (t r) (count u w) 0 =
+      count-same (λ i. both (r * w + i)) (λ i. t r && u i) w (λ i h. rw (digits-div r h, digits-mod r h)) ∙ one-row (t r) in
+      ap (count both) e ∙ count-add both (r * w) w ∙ ap₂ (λ (a b : ℕ). a + b) (count-rows r) row ∙ add (t r)
+    where
+      add : (a : Bool) → count t r * count u w + cond a (count u w) 0 ≡ cond a (count t r + 1) (count t r) * count u w
+      add true = omega arith
+      add false = omega arith
+
+-- ---- a layer, of any shape
+grid-leads : (dir : Direction) (s : ℕ) → 0 < s → (gridFor dir s .row < gridFor dir s .down) × (gridFor dir s .col < gridFor dir s .right)
+grid-leads Anchor s h = (omega arith, omega arith)
+grid-leads Across s h = (omega arith, omega arith)
+grid-leads Down s h = (omega arith, omega arith)
+
+pub layer-size : (sh : Shape) (k : ℕ) (g : Grid) → g ≡ gridOf (sh .levels) k
+    → layerSize sh k ≡ steps (g .row) (g .down) (sh .rows) * steps (g .col) (g .right) (sh .cols)
+unfolding layerSize inLayer
+layer-size sh k g is =
+    let s = spacing (sh .levels) k in
+    let leads = grid-leads (direction k) s (spacing-some (sh .levels) k) in
+    rw is
+    (count-same (λ p. has (sh .levels) k (p / sh .cols) (p % sh .cols)) (λ p. onGrid (gridFor (direction k) s) (p / sh .cols) (p % sh .cols)) (points sh)
+    (λ p h. member-grid (direction k) s (p / sh .cols) (p % sh .cols))
+    ∙ count-rows (λ r. eqb (r % gridFor (direction k) s .down) (gridFor (direction k) s .row)) (λ c. eqb (c % gridFor (direction k) s .right) (gridFor (direction k) s .col)) (sh .cols) (sh .rows)
+    ∙ ap₂ (λ (a b : ℕ). a * b) (count-steps (gridFor (direction k) s .row) (gridFor (direction k) s .down) (sh .rows) (leads .0)) (count-steps (gridFor (direction k) s .col) (gridFor (direction k) s .right) (sh .cols) (leads .1)))
+
+-- ---- all layers
+sizes-known : (Y : Layering) → Proper Y → (k : ℕ) → k ≤ Y .layers → total (λ j. count (Y .mem j) (Y .points)) k ≡ count (known Y k) (Y .points)
+unfolding total known
+sizes-known Y ok zero h = sym (count-empty (Y .points))
+sizes-known Y ok (suc k) h =
+    ap (λ (x : ℕ). x + count (Y .mem k) (Y .points)) (sizes-known Y ok k (omega arith))
+    ∙ sym (count-either (known Y k) (Y .mem k) (known Y (suc k)) (Y .points) (λ i l m. ok .fresh k i h m) (λ i l. refl))
+
+pub sizes-all : (Y : Layering) → Proper Y → total (λ k. count (Y .mem k) (Y .points)) (Y .layers) ≡ Y .points
+sizes-all Y ok = sizes-known Y ok (Y .layers) (le-refl _) ∙ count-all (known Y (Y .layers)) (Y .points) (λ i l. ok .all i)
+
+pub layers-fill : (sh : Shape) → accepted sh ≡ true → total (layerSize sh) (layers sh) ≡ points sh
+unfolding layerSize
+layers-fill sh ok = sizes-all (layering sh Linear) (sheet-proper sh ok Linear)

@@ -1,0 +1,96 @@
+-- The error law of a sheet: coefficients that differ by at most off k in layer k give values that differ by at most what stands after all
+-- layers. It is the error law with the sheet's carry; a layer with a point is not empty.
+use mathlib.Core.Path.{_≡_, sym, _∙_}
+use mathlib.Core.Bool.{Bool, true, false, cond, true≢false}
+use mathlib.Core.List.{List}
+use Prim.Native.Nat.{ℕ, zero, suc, _+_, _*_, _<_, _≤_}
+use native.Mathlib.Nat.{le-refl, zero-div, zero-mod}
+use native.Mathlib.Omega.{arith}
+use lib.Arith.{digits-lt}
+use lib.Dec.{eqb}
+use lib.IntN.{ℤ}
+use borrow.Author.Tests.{eqb-true, eqb-false, ne-eqb}
+use Rattle.integers.specs.Distance.{Near}
+use Rattle.integers.proofs.Near.{near-trans}
+use Rattle.layers.specs.declared.Shape.{Shape}
+use Rattle.layers.specs.declared.Curve.{Curve}
+use Rattle.layers.specs.Lists.{at}
+use Rattle.layers.specs.Sheet.{accepted, points, layers, spacing, inLayer, layerSize}
+use Rattle.layers.specs.Prediction.{width}
+use Rattle.layers.specs.Layering.{layering, rebuilt, coefs}
+use Rattle.layers.specs.Carry.{carry, standing}
+use Rattle.integers.proofs.Bools.{by}
+use Rattle.layers.proofs.Accepting.{accepted-yes}
+use Rattle.layers.proofs.Places.{size-none}
+use Rattle.layers.proofs.SheetLaw.{sheet-proper}
+use Rattle.layers.proofs.Carry.{carried-none, carried-up, carried-mono, sheet-near}
+use Rattle.layers.proofs.Law.{read-back, written-near}
+use Rattle.layers.proofs.Error.{error}
+
+module _ (sh : Shape) (curve : Curve) (own : ℕ → ℕ) where
+  -- an empty layer changes nothing
+  pub standing-empty : (k : ℕ) → layerSize sh k ≡ 0 → standing sh curve own (suc k) ≡ standing sh curve own k
+  unfolding standing
+  standing-empty k e = rw e
+
+  -- any other carries and adds
+  pub standing-more : (k : ℕ) → (layerSize sh k ≡ 0 → ⊥) → standing sh curve own (suc k) ≡ carry sh curve k (standing sh curve own k) + own k
+  unfolding standing
+  standing-more k n = rw (ne-eqb (layerSize sh k) 0 n)
+
+  pub standing-rises : (k : ℕ) → standing sh curve own k ≤ standing sh curve own (suc k)
+  standing-rises k =
+      by (eqb (layerSize sh k) 0)
+      (λ e. rw (standing-empty k (eqb-true (layerSize sh k) 0 e)) (le-refl _))
+      (λ e. rw (standing-more k (eqb-false (layerSize sh k) 0 e)) (omega (arith, carried-up curve (standing sh curve own k))))
+
+-- "Start with loss × w of layer 0"
+first-some : (sh : Shape) → accepted sh ≡ true → layerSize sh 0 ≡ 0 → ⊥
+first-some sh ok z =
+    let s = accepted-yes sh ok in
+    let corner : 0 * sh .cols + 0 < points sh = digits-lt (s .tall) (s .wide) in
+    let h : 0 < points sh = omega arith in
+    true≢false (sym origin ∙ size-none sh 0 z 0 h)
+  where
+    origin : inLayer sh 0 0 ≡ true
+    origin = unfold inLayer in (rw (zero-div (sh .cols), zero-mod (sh .cols), zero-mod (spacing (sh .levels) 0)))
+
+pub standing-first : (sh : Shape) → accepted sh ≡ true → (curve : Curve) (own : ℕ → ℕ) → standing sh curve own 1 ≡ own 0
+unfolding standing
+standing-first sh ok curve own = standing-more sh curve own 0 (first-some sh ok) ∙ rw (carried-none curve) (omega arith)
+
+-- what stands is no less where the layers add no less
+pub standing-mono : (sh : Shape) (curve : Curve) (own own′ : ℕ → ℕ) → ((k : ℕ) → own k ≤ own′ k) → (k : ℕ) → standing sh curve own k ≤ standing sh curve own′ k
+unfolding standing
+standing-mono sh curve own own′ le zero = le-refl 0
+standing-mono sh curve own own′ le (suc k) = step (eqb (layerSize sh k) 0) (standing-mono sh curve own own′ le k)
+  where
+    step : (t : Bool) {m n : ℕ} → m ≤ n → cond t m (carry sh curve k m + own k) ≤ cond t n (carry sh curve k n + own′ k)
+    step true h = h
+    step false {m} {n} h = omega (arith, carried-mono curve m n h, le k)
+
+module _ (sh : Shape) (ok : accepted sh ≡ true) (curve : Curve) (e : ℕ) (off : ℕ → ℕ) where
+  pub sheet-error : (qs qs′ : List ℤ)
+      → ((k p : ℕ) → k < layers sh → p < points sh → inLayer sh k p ≡ true → Near (off k) (at qs p) (at qs′ p))
+      → (p : ℕ) → p < points sh
+      → Near (standing sh curve (λ k. off k * width e) (layers sh)) (at (rebuilt (layering sh curve) e qs) p) (at (rebuilt (layering sh curve) e qs′) p)
+  sheet-error =
+      error (layering sh curve) (sheet-proper sh ok curve) e (standing sh curve own) off (carry sh curve)
+      (λ k m hk. sheet-near sh ok curve k hk m)
+      (λ k hk. standing-rises sh curve own k)
+      (λ k p hk hp m. rw (standing-more sh curve own k (some k p hp m)) (le-refl _))
+    where
+      own : ℕ → ℕ
+      own k = off k * width e
+
+      some : (k p : ℕ) → p < points sh → inLayer sh k p ≡ true → layerSize sh k ≡ 0 → ⊥
+      some k p hp m z = true≢false (sym m ∙ size-none sh k z p hp)
+
+  -- so values rebuilt from coefficients that are off by so much stand within the step and what stands of the samples
+  pub sheet-samples : (xs qs : List ℤ)
+      → ((k p : ℕ) → k < layers sh → p < points sh → inLayer sh k p ≡ true → Near (off k) (at (coefs (layering sh curve) e xs) p) (at qs p))
+      → (p : ℕ) → p < points sh
+      → Near (e + standing sh curve (λ k. off k * width e) (layers sh)) (at xs p) (at (rebuilt (layering sh curve) e qs) p)
+  sheet-samples xs qs apart p hp =
+      near-trans (rw (← read-back (layering sh curve) (sheet-proper sh ok curve) e xs) at (written-near (layering sh curve) (sheet-proper sh ok curve) e xs p hp))
+      (sheet-error (coefs (layering sh curve) e xs) qs apart p hp)

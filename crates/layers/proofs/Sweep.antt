@@ -1,0 +1,72 @@
+-- A sweep over a list in place, from the front, against the same change made at every place at once: by cases of the place.
+-- f l i is the new element at i, from the list l. A place that is no member of the set keeps its element, and the new element
+-- of a member depends on the elements at the places outside the set alone. Then it does not matter that the sweep has
+-- already changed the places before i.
+--     Swept p        the list as the sweep has it when it has come to p: the places before p are new, those from p on old
+--     swept-none, swept-more, swept-skip, swept-all     at the start, after a store at p, past places outside, and at the end
+use mathlib.Core.Path.{_≡_, refl, sym, _∙_, subst}
+use mathlib.Core.Bool.{Bool, true, false}
+use mathlib.Core.List.{List}
+use Prim.Native.Nat.{ℕ, _+_, _<_, _≤_}
+use native.Mathlib.Nat.{not-suc-le-zero, le-refl}
+use native.Mathlib.Decide.{ℕ-discrete, decLt}
+use native.Mathlib.Omega.{arith}
+use lib.ListN.{length, getD, set, length-set}
+use lib.Seq.{ext-getD, getD-set-same, getD-set-other}
+use Rattle.layers.specs.Lists.{tabulate}
+use Rattle.integers.proofs.Bools.{by}
+use Rattle.layers.proofs.Lists.{length-tabulate, getD-tabulate}
+
+module _ {A : Type 0} where
+  pub record Swept (d : A) (f : List A → ℕ → A) (l₀ : List A) (p : ℕ) (l : List A) : Type 0 where
+    pub same : length l ≡ length l₀
+    pub done : (i : ℕ) → i < p → getD l i d ≡ f l₀ i
+    pub left : (i : ℕ) → p ≤ i → getD l i d ≡ getD l₀ i d
+
+  -- what a sweep needs of f and of the set
+  pub record Local (d : A) (n : ℕ) (f : List A → ℕ → A) (mem : ℕ → Bool) : Type 0 where
+    pub keeps : (l : List A) (i : ℕ) → mem i ≡ false → f l i ≡ getD l i d
+    pub reads : (l l′ : List A) (i : ℕ) → i < n → mem i ≡ true → ((j : ℕ) → mem j ≡ false → getD l j d ≡ getD l′ j d) → f l i ≡ f l′ i
+
+  module _ (d : A) (n : ℕ) (f : List A → ℕ → A) (mem : ℕ → Bool) (loc : Local d n f mem) where
+    pub swept-none : (l₀ : List A) → Swept d f l₀ 0 l₀
+    swept-none l₀ = record { same = refl; done = λ i h. absurd (not-suc-le-zero h); left = λ i h. refl }
+
+    -- the places outside the set are as they were, all through the sweep
+    pub outside : {l₀ l : List A} {p : ℕ} → Swept d f l₀ p l → (j : ℕ) → mem j ≡ false → getD l j d ≡ getD l₀ j d
+    outside {l₀} {l} {p} w j m =
+        elim (decLt j p) [ yes h ↦ w .done j h ∙ loc .keeps l₀ j m | no h ↦ w .left j (omega arith) ]
+
+    -- so the element that a turn stores is the one that the list at the start gives
+    pub swept-here : {l₀ l : List A} {p : ℕ} → p < n → Swept d f l₀ p l → f l p ≡ f l₀ p
+    swept-here {l₀} {l} {p} h w =
+        by (mem p)
+        (λ m. loc .reads l l₀ p h m (outside w))
+        (λ m. loc .keeps l p m ∙ w .left p (le-refl p) ∙ sym (loc .keeps l₀ p m))
+
+    pub swept-more : {l₀ l : List A} {p : ℕ} (v : A) → v ≡ f l p → p < n → n ≡ length l₀ → Swept d f l₀ p l → Swept d f l₀ (p + 1) (set l p v)
+    swept-more {l₀} {l} {p} v e h k₀ w =
+        record {
+          same = length-set l p v ∙ w .same;
+          done = λ i k.
+              elim (ℕ-discrete i p) [
+                | yes q ↦ subst (λ (x : ℕ). getD (set l p v) x d ≡ f l₀ x) (sym q) (getD-set-same l p v d (omega (arith, w .same)) ∙ e ∙ swept-here h w)
+                | no q ↦ getD-set-other l p i v d q ∙ w .done i (omega arith)
+              ];
+          left = λ i k. getD-set-other l p i v d (omega arith) ∙ w .left i (omega arith);
+        }
+
+    -- places outside the set may be passed over
+    pub swept-skip : {l₀ l : List A} {p : ℕ} (p′ : ℕ) → p ≤ p′ → ((i : ℕ) → p ≤ i → i < p′ → mem i ≡ false) → Swept d f l₀ p l → Swept d f l₀ p′ l
+    swept-skip {l₀} {l} {p} p′ h out w =
+        record {
+          same = w .same;
+          done = λ i k. elim (decLt i p) [ yes lt ↦ w .done i lt | no ge ↦ w .left i (omega arith) ∙ sym (loc .keeps l₀ i (out i (omega arith) k)) ];
+          left = λ i k. w .left i (omega arith);
+        }
+
+    pub swept-all : {l₀ l : List A} {p : ℕ} → length l₀ ≤ p → Swept d f l₀ p l → l ≡ tabulate (length l₀) (f l₀)
+    swept-all {l₀} {l} {p} h w =
+        ext-getD d l (tabulate (length l₀) (f l₀))
+        (w .same ∙ sym (length-tabulate (length l₀) (f l₀)))
+        (λ i k. w .done i (omega (arith, w .same)) ∙ sym (getD-tabulate (length l₀) (f l₀) i d (omega (arith, w .same))))

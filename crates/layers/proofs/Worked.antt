@@ -1,0 +1,52 @@
+-- The bench sheet of document 01, by computation: 1 by 5, one level, linear, step 1.
+use mathlib.Core.Path.{_≡_, refl}
+use mathlib.Core.List.{List, [], _∷_}
+use lib.IntN.{ℤ, pos, negsuc}
+use Rattle.integers.specs.Floor.{floorDiv, ceilDiv}
+use Rattle.layers.specs.declared.Shape.{Shape}
+use Rattle.layers.specs.declared.Curve.the-variants.{Linear, Cubic}
+use Rattle.layers.specs.Lists.{tabulate, count}
+use Rattle.layers.specs.Sheet.{spacing, inLayer, layerSize}
+use Rattle.layers.specs.Prediction.{cubic, linear, line, predictedAt, width, coefficientOf, rebuiltFrom}
+use Rattle.layers.specs.Layering.{layering, pointBy, layerBy, valuesBy, alongside, rebuilt, written, coefs}
+use Rattle.layers.specs.Carry.{carried}
+
+abbrev pub benchShape : Shape
+benchShape = record { rows = 1; cols = 5; levels = 1 }
+
+abbrev pub benchSamples : List ℤ
+benchSamples = pos 10 ∷ pos 13 ∷ pos 11 ∷ pos 20 ∷ pos 30 ∷ []
+
+-- the anchors' 3 4 10 at columns 0, 2 and 4, and 1 0 between them
+abbrev pub benchCoefs : List ℤ
+benchCoefs = pos 3 ∷ pos 1 ∷ pos 4 ∷ pos 0 ∷ pos 10 ∷ []
+
+abbrev pub benchValues : List ℤ
+benchValues = pos 9 ∷ pos 13 ∷ pos 12 ∷ pos 21 ∷ pos 30 ∷ []
+
+pub bench-coefs : coefs (layering benchShape Linear) 1 benchSamples ≡ benchCoefs
+unfolding coefs alongside valuesBy layerBy tabulate pointBy inLayer spacing predictedAt line linear coefficientOf rebuiltFrom floorDiv width
+bench-coefs = refl
+
+pub bench-written : written (layering benchShape Linear) 1 benchSamples ≡ benchValues
+unfolding written valuesBy layerBy tabulate pointBy inLayer spacing predictedAt line linear coefficientOf rebuiltFrom floorDiv width
+bench-written = refl
+
+pub bench-rebuilt : rebuilt (layering benchShape Linear) 1 benchCoefs ≡ benchValues
+unfolding rebuilt valuesBy layerBy tabulate pointBy inLayer spacing predictedAt line linear rebuiltFrom floorDiv width
+bench-rebuilt = refl
+
+-- three anchors, two points across, none down
+pub bench-sizes : tabulate 3 (layerSize benchShape) ≡ 3 ∷ 2 ∷ 0 ∷ []
+unfolding tabulate layerSize count inLayer spacing
+bench-sizes = refl
+
+-- "Cubic of 0, -1, 0, 0 is -1": -9 / 16, rounded down
+pub cubic-down : cubic (pos 0) (negsuc 0) (pos 0) (pos 0) ≡ negsuc 0
+unfolding cubic floorDiv
+cubic-down = refl
+
+-- "Carried cubically, 4 becomes 5, then 7"
+pub carried-twice : (carried Cubic 4 ≡ 5) × (carried Cubic 5 ≡ 7)
+unfolding carried ceilDiv
+carried-twice = (refl, refl)

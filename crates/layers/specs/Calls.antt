@@ -1,0 +1,69 @@
+-- The calls: what each answers and leaves in the caller's slices, whatever it is given.
+use mathlib.Core.Bool.{Bool, true, false, cond, _&&_}
+use mathlib.Core.List.{List, [], _∷_}
+use Prim.Native.Nat.{ℕ, zero, suc, _/_, _%_}
+use lib.Dec.{leb, ltb, eqb}
+use lib.IntN.{ℤ, pos, negℤ}
+use lib.ListN.{length}
+use lib.Signed.{leZ}
+use Rattle.layers.specs.declared.Shape.{Shape}
+use Rattle.layers.specs.declared.Curve.{Curve}
+use Rattle.layers.specs.declared.Scan.{Scan}
+use Rattle.layers.specs.declared.Scan.the-variants.{Clear, OutAt}
+use Rattle.layers.specs.declared.Quantized.{Quantized}
+use Rattle.layers.specs.declared.Quantized.the-variants.{Done, Refused, OutOfRange}
+use Rattle.layers.specs.Limits.{stepMost, sampleMost}
+use Rattle.layers.specs.Sheet.{accepted, points, layers, layerSize}
+use Rattle.layers.specs.Layering.{layering, rebuilt, written, coefs}
+
+-- a shape and a step that document 01 accepts
+unfoldable pub settled : Shape → ℕ → Bool
+settled sh e = accepted sh && leb e stepMost
+
+-- a slice has a number for each point
+unfoldable pub full : Shape → List ℤ → Bool
+full sh l = eqb (length l) (points sh)
+
+-- ---- the range of samples
+unfoldable pub inRange : ℤ → Bool
+inRange x = leZ (negℤ (pos sampleMost)) x && leZ x (pos sampleMost)
+
+-- how many samples stand before the first one out of range
+unfoldable pub goodPrefix : List ℤ → ℕ
+goodPrefix [] = 0
+goodPrefix (x ∷ xs) = cond (inRange x) (suc (goodPrefix xs)) 0
+
+-- the first one out of range in row order, of a sheet of so many columns
+unfoldable pub scanned : ℕ → List ℤ → Scan
+scanned cols xs = cond (ltb (goodPrefix xs) (length xs)) (OutAt (goodPrefix xs / cols) (goodPrefix xs % cols)) Clear
+
+-- ---- rebuilding: the values follow from the coefficients alone; where a size is not right, nothing changes
+unfoldable pub rebuildable : Shape → ℕ → List ℤ → List ℤ → Bool
+rebuildable sh e qs vs = settled sh e && (full sh qs && full sh vs)
+
+unfoldable pub rebuilding : Shape → Curve → ℕ → List ℤ → List ℤ → List ℤ
+rebuilding sh curve e qs vs = cond (rebuildable sh e qs vs) (rebuilt (layering sh curve) e qs) vs
+
+-- ---- quantizing: coefficients and values of the samples; where a size is not right or a sample is out of range, nothing changes
+pub record Quantizing : Type 0 where
+  pub answer : Quantized
+  pub coefficients : List ℤ
+  pub values : List ℤ
+
+unfoldable pub quantizable : Shape → ℕ → List ℤ → List ℤ → List ℤ → Bool
+quantizable sh e xs qs vs = settled sh e && (full sh xs && (full sh qs && full sh vs))
+
+abbrev pub afterScan : Shape → Curve → ℕ → List ℤ → List ℤ → List ℤ → Scan → Quantizing
+afterScan sh curve e xs qs vs Clear =
+    record { answer = Done; coefficients = coefs (layering sh curve) e xs; values = written (layering sh curve) e xs }
+afterScan sh curve e xs qs vs (OutAt row col) = record { answer = OutOfRange row col; coefficients = qs; values = vs }
+
+unfoldable pub quantizing : Shape → Curve → ℕ → List ℤ → List ℤ → List ℤ → Quantizing
+quantizing sh curve e xs qs vs =
+    cond (quantizable sh e xs qs vs)
+    (afterScan sh curve e xs qs vs (scanned (sh .cols) xs))
+    (record { answer = Refused; coefficients = qs; values = vs })
+
+-- ---- the points of a layer; a layer that is not there has none
+unfoldable pub sizing : Shape → ℕ → ℕ
+sizing sh k = cond (accepted sh && ltb k (layers sh)) (layerSize sh k) 0

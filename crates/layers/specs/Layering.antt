@@ -1,0 +1,90 @@
+-- Points in layers, each predicted from the values of the layers before its own: what writing and reading do, whatever the points, the
+-- layers and the prediction. A sheet is one such layering (`layering`).
+use mathlib.Core.Bool.{Bool, true, false, cond, _||_}
+use mathlib.Core.List.{List}
+use mathlib.Core.Path.{_≡_}
+use Prim.Native.Nat.{ℕ, zero, suc, _<_}
+use lib.IntN.{ℤ, pos}
+use lib.ListN.{length, replicate}
+use Rattle.layers.specs.declared.Shape.{Shape}
+use Rattle.layers.specs.declared.Curve.{Curve}
+use Rattle.layers.specs.Lists.{at, tabulate}
+use Rattle.layers.specs.Sheet.{points, layers, inLayer}
+use Rattle.layers.specs.Prediction.{predictedAt, coefficientOf, rebuiltFrom}
+
+pub record Layering : Type 0 where
+  pub points : ℕ
+  pub layers : ℕ
+  -- does the point p stand in layer k?
+  pub mem : ℕ → ℕ → Bool
+  -- what is predicted at the point p of layer k from a list of values
+  pub predict : ℕ → List ℤ → ℕ → ℤ
+
+abbrev pub layering : Shape → Curve → Layering
+layering sh curve = record { points = points sh; layers = layers sh; mem = inLayer sh; predict = predictedAt sh curve }
+
+-- does the point p stand in one of the first k layers?
+unfoldable pub known : Layering → ℕ → ℕ → Bool
+known Y zero p = false
+known Y (suc k) p = known Y k p || Y .mem k p
+
+-- the layer that the point p stands in, among the first k
+unfoldable pub lastIn : Layering → ℕ → ℕ → ℕ
+lastIn Y zero p = 0
+lastIn Y (suc k) p = cond (Y .mem k p) k (lastIn Y k p)
+
+abbrev pub layerNo : Layering → ℕ → ℕ
+layerNo Y p = lastIn Y (Y .layers) p
+
+-- layer k, all of its points at once: g gives a point's new number from what is predicted there, and every other point keeps its own
+unfoldable pub pointBy : Layering → ℕ → (ℤ → ℕ → ℤ) → List ℤ → List ℤ → ℕ → ℤ
+pointBy Y k g vs old p = cond (Y .mem k p) (g (Y .predict k vs p) p) (at old p)
+
+unfoldable pub layerBy : Layering → ℕ → (ℤ → ℕ → ℤ) → List ℤ → List ℤ → List ℤ
+layerBy Y k g vs old = tabulate (length old) (pointBy Y k g vs old)
+
+-- the values after the first k layers
+unfoldable pub valuesBy : Layering → (ℤ → ℕ → ℤ) → List ℤ → ℕ → List ℤ
+valuesBy Y g vs zero = vs
+valuesBy Y g vs (suc k) = let w = valuesBy Y g vs k in layerBy Y k g w w
+
+-- what else is made at each point as the values are: h gives it from the same prediction
+unfoldable pub alongside : Layering → (ℤ → ℕ → ℤ) → (ℤ → ℕ → ℤ) → List ℤ → List ℤ → ℕ → List ℤ
+alongside Y g h vs qs zero = qs
+alongside Y g h vs qs (suc k) = layerBy Y k h (valuesBy Y g vs k) (alongside Y g h vs qs k)
+
+-- every layer's points are made before they are read, so it does not matter what stands there at the start
+abbrev pub blank : Layering → List ℤ
+blank Y = replicate (Y .points) (pos 0)
+
+-- reading: a point's value from its coefficient
+abbrev pub reads : ℕ → List ℤ → ℤ → ℕ → ℤ
+reads e qs y p = rebuiltFrom y (at qs p) e
+
+unfoldable pub rebuilt : Layering → ℕ → List ℤ → List ℤ
+rebuilt Y e qs = valuesBy Y (reads e qs) (blank Y) (Y .layers)
+
+-- writing: a point's coefficient from its sample, and its value from the coefficient. "The writer predicts from rebuilt values, never from readings."
+abbrev pub makes : ℕ → List ℤ → ℤ → ℕ → ℤ
+makes e xs y p = coefficientOf (at xs p) y e
+
+abbrev pub writes : ℕ → List ℤ → ℤ → ℕ → ℤ
+writes e xs y p = rebuiltFrom y (makes e xs y p) e
+
+unfoldable pub written : Layering → ℕ → List ℤ → List ℤ
+written Y e xs = valuesBy Y (writes e xs) (blank Y) (Y .layers)
+
+unfoldable pub coefs : Layering → ℕ → List ℤ → List ℤ
+coefs Y e xs = alongside Y (writes e xs) (makes e xs) (blank Y) (blank Y) (Y .layers)
+
+-- what layer k's predictions come to, where two lists of values stand in a relation at the points of the layers before it
+abbrev pub Carries : Layering → ℕ → (ℤ → ℤ → Type 0) → (ℤ → ℤ → Type 0) → Type 0
+Carries Y k R R′ =
+    (vs vs′ : List ℤ) → ((p : ℕ) → p < Y .points → known Y k p ≡ true → R (at vs p) (at vs′ p))
+    → (p : ℕ) → p < Y .points → Y .mem k p ≡ true → R′ (Y .predict k vs p) (Y .predict k vs′ p)
+
+-- every point stands in exactly one layer, and is predicted from the layers before it alone
+pub record Proper (Y : Layering) : Type 0 where
+  pub all : (p : ℕ) → known Y (Y .layers) p ≡ true
+  pub fresh : (k p : ℕ) → k < Y .layers → known Y k p ≡ true → Y .mem k p ≡ false
+  pub local : (k : ℕ) → k < Y .layers → Carries Y k _≡_ _≡_
