@@ -196,6 +196,26 @@ pub fn layer_size(shape: Shape, layer: usize) -> usize
     steps(g.row, g.down, rows) * steps(g.col, g.right, cols)
 }
 
+// A layer's rows and columns; every point where there is no such layer.
+pub fn layer_grid(shape: Shape, layer: usize) -> Grid
+    ensures { λ r. ⌜ r ≡ C.gridding shape layer ⌝ }
+{
+    let all = Grid {
+        row: 0,
+        down: 1,
+        col: 0,
+        right: 1,
+    };
+    if !accepted(shape) {
+        return all;
+    }
+    let levels = shape.levels;
+    if 2 * levels < layer {
+        return all;
+    }
+    grid_of(levels, layer)
+}
+
 // Does the curve take four neighbours of place t on a line of n points?
 fn uses_four(curve: Curve, n: usize, t: usize, s: usize) -> bool
     requires { ⌜ (s ≤ 2 ^ levelsMost) × (t ≤ pointsMost) ⌝ }
