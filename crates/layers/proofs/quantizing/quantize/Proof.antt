@@ -1,0 +1,135 @@
+-- Each test that refuses is one that `quantizable` asks for. After them the scan is the one that quantizing names: where it found a sample
+-- nothing changes, and where it found none the layers are quantized.
+use mathlib.Core.Path.{_≡_, _∙_, sym, ap}
+use mathlib.Core.Bool.{true}
+use mathlib.Core.List.{List}
+use native.Mathlib.Omega.{arith}
+use lib.IntN.{ℤ}
+use denote.Ref.{now}
+use borrow.Author.Needs.{needs}
+use borrow.Author.Tests.{not-true, not-false}
+use Rattle.layers.specs.declared.Shape.{Shape}
+use Rattle.layers.specs.Calls.{settled, Quantizing, quantizable}
+use Rattle.layers.proofs.Accepting.{accepted-yes}
+use Rattle.layers.proofs.Answers.{settled-yes, samples-by, unsettled, samples-short, coefficients-short, values-short, right, after-scan}
+use Rattle.layers.proofs.quantizing.quantize.Statement.{statement}
+use Rattle.layers.proofs.quantizing.quantize.Tie as tie
+
+abbrev Sh : tie.Start → Shape
+Sh a = a .args .shape
+
+abbrev Xs : tie.Start → List ℤ
+Xs a = now (a .args .samples)
+
+abbrev Qs : tie.Start → List ℤ
+Qs a = now (a .args .coefficients)
+
+abbrev Vs : tie.Start → List ℤ
+Vs a = now (a .args .values)
+
+settled-requires : tie.Need-settled-requires
+settled-requires c κs = search needs
+
+returns : tie.Need-returns
+returns c =
+    let a = c .before .before in
+    unsettled (Sh a) (a .args .curve) (a .args .step) (Xs a) (Qs a) (Vs a) (sym (c .before .settled .ensures) ∙ not-true _ (c .if1 .taken))
+
+-- the shape and the step are accepted
+is-settled : (c : tie.Else1) → settled (Sh (c .before .before)) (c .before .before .args .step) ≡ true
+is-settled c = sym (c .before .settled .ensures) ∙ not-false _ (c .if1 .left)
+
+mul-points : tie.Need-mul-points
+mul-points c =
+    let a = c .before .before in
+    omega (arith, accepted-yes (Sh a) (settled-yes (Sh a) (a .args .step) (is-settled c) .0) .small)
+
+returns-2 : tie.Need-returns-2
+returns-2 c =
+    let a = c .before .before .before in
+    samples-short (Sh a) (a .args .curve) (a .args .step) (Xs a) (Qs a) (Vs a) (c .if2 .taken)
+
+returns-3 : tie.Need-returns-3
+returns-3 c =
+    let a = c .before .before .before .before in
+    coefficients-short (Sh a) (a .args .curve) (a .args .step) (Xs a) (Qs a) (Vs a) (c .if3 .taken)
+
+returns-4 : tie.Need-returns-4
+returns-4 c =
+    let a = c .before .before .before .before .before in
+    values-short (Sh a) (a .args .curve) (a .args .step) (Xs a) (Qs a) (Vs a) (c .if4 .taken)
+
+scan-samples-requires : tie.Need-scan-samples-requires
+scan-samples-requires c κs = search needs
+
+-- every size is right
+abbrev A : tie.Else4 → tie.Start
+A d = d .before .before .before .before .before
+
+all-right : (d : tie.Else4) → (let a = A d in quantizable (Sh a) (a .args .step) (Xs a) (Qs a) (Vs a) ≡ true)
+all-right d =
+    let a = A d in
+    right (Sh a) (a .args .curve) (a .args .step) (Xs a) (Qs a) (Vs a) (is-settled (d .before .before .before)) (d .before .before .if2 .left) (d .before .if3 .left) (d .if4 .left)
+
+enum-known-row : tie.Need-enum-known-row
+enum-known-row c = search needs
+
+enum-told : tie.Need-enum-told
+enum-told c = search needs
+
+quantize-layers-requires : tie.Need-quantize-layers-requires
+quantize-layers-requires c κs =
+    let t = c .before .before in
+    let s = t .before .before in
+    let d = s .before in
+    let a = A d in (
+      samples-by (Sh a) (a .args .step) (Xs a) (is-settled (d .before .before .before)) (d .before .before .if2 .left) (sym (s .scan-samples .ensures) ∙ t .enum-told .given .1),
+      (d .before .if3 .left, d .if4 .left),
+    )
+
+returns-5 : tie.Need-returns-5
+returns-5 c =
+    let r = c .before in
+    let s = r .before .before in
+    let d = s .before in
+    let a = A d in
+    let e = after-scan (Sh a) (a .args .curve) (a .args .step) (Xs a) (Qs a) (Vs a) (all-right d) _ (sym (r .row .given .1) ∙ s .scan-samples .ensures) in
+    (ap (λ (z : Quantizing). z .answer) (sym e), ap (λ (z : Quantizing). z .coefficients) (sym e), ap (λ (z : Quantizing). z .values) (sym e))
+
+same-length : tie.Need-same-length
+same-length c = search needs
+
+same-length-2 : tie.Need-same-length-2
+same-length-2 c = search needs
+
+returns-6 : tie.Need-returns-6
+returns-6 c =
+    let w = c .before .before in
+    let t = w .before .before .before in
+    let s = t .before .before in
+    let d = s .before in
+    let a = A d in
+    let e = after-scan (Sh a) (a .args .curve) (a .args .step) (Xs a) (Qs a) (Vs a) (all-right d) _ (sym (t .enum-told .given .1) ∙ s .scan-samples .ensures) in (
+      ap (λ (z : Quantizing). z .answer) (sym e),
+      w .quantize-layers .ensures .0 ∙ ap (λ (z : Quantizing). z .coefficients) (sym e),
+      w .quantize-layers .ensures .1 ∙ ap (λ (z : Quantizing). z .values) (sym e),
+    )
+
+pub quantize-spec : {M : Type 1} → statement M
+quantize-spec =
+    tie.close
+    (tie.spec
+    settled-requires
+    returns
+    mul-points
+    returns-2
+    returns-3
+    returns-4
+    scan-samples-requires
+    enum-known-row
+    enum-told
+    quantize-layers-requires
+    returns-5
+    same-length
+    same-length-2
+    returns-6)

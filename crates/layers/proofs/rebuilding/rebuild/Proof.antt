@@ -1,0 +1,128 @@
+-- Each arm that refuses shows that one test of `rebuildable` is false; the last arm has passed them all, and its call gives the values.
+use mathlib.Core.Path.{_≡_, _∙_, sym}
+use mathlib.Core.Bool.{true, false, _&&_}
+use mathlib.Core.List.{List}
+use Prim.Native.Nat.{ℕ, _≤_}
+use native.Mathlib.Omega.{arith}
+use lib.Dec.{leb}
+use lib.IntN.{ℤ}
+use lib.ListN.{length}
+use denote.Ref.{now}
+use borrow.Author.Needs.{needs}
+use borrow.Author.Tests.{not-true, not-false, leb-true, eq-eqb, ne-eqb}
+use Rattle.layers.specs.declared.Shape.{Shape}
+use Rattle.layers.specs.declared.Curve.{Curve}
+use Rattle.layers.specs.Limits.{stepMost}
+use Rattle.layers.specs.Sheet.{accepted, points}
+use Rattle.layers.specs.Layering.{layering, rebuilt}
+use Rattle.layers.specs.Calls.{settled, full, rebuildable, rebuilding}
+use Rattle.integers.proofs.Bools.{and-left, and-right, and-both, and-no-left, and-no-right}
+use Rattle.layers.proofs.Accepting.{accepted-yes}
+use Rattle.layers.proofs.rebuilding.rebuild.Statement.{statement}
+use Rattle.layers.proofs.rebuilding.rebuild.Tie as tie
+
+settled-yes : (sh : Shape) (e : ℕ) → settled sh e ≡ true → (accepted sh ≡ true) × (e ≤ stepMost)
+unfolding settled
+settled-yes sh e h = (and-left (accepted sh) (leb e stepMost) h, leb-true e stepMost (and-right (accepted sh) (leb e stepMost) h))
+
+full-yes : (sh : Shape) (l : List ℤ) → length l ≡ points sh → full sh l ≡ true
+unfolding full
+full-yes sh l h = eq-eqb (length l) (points sh) h
+
+full-no : (sh : Shape) (l : List ℤ) → (length l ≡ points sh → ⊥) → full sh l ≡ false
+unfolding full
+full-no sh l h = ne-eqb (length l) (points sh) h
+
+-- the tests, and what is answered and left by their outcome
+module _ (sh : Shape) (e : ℕ) (qs vs : List ℤ) where
+  no-shape : settled sh e ≡ false → rebuildable sh e qs vs ≡ false
+  unfolding rebuildable
+  no-shape h = and-no-left (settled sh e) (full sh qs && full sh vs) h
+
+  no-coefficients : (length qs ≡ points sh → ⊥) → rebuildable sh e qs vs ≡ false
+  unfolding rebuildable
+  no-coefficients h = and-no-right (settled sh e) (full sh qs && full sh vs) (and-no-left (full sh qs) (full sh vs) (full-no sh qs h))
+
+  no-values : (length vs ≡ points sh → ⊥) → rebuildable sh e qs vs ≡ false
+  unfolding rebuildable
+  no-values h = and-no-right (settled sh e) (full sh qs && full sh vs) (and-no-right (full sh qs) (full sh vs) (full-no sh vs h))
+
+  all-there : settled sh e ≡ true → length qs ≡ points sh → length vs ≡ points sh → rebuildable sh e qs vs ≡ true
+  unfolding rebuildable
+  all-there h q v = and-both (settled sh e) (full sh qs && full sh vs) h (and-both (full sh qs) (full sh vs) (full-yes sh qs q) (full-yes sh vs v))
+
+  module _ (curve : Curve) where
+    refused : rebuildable sh e qs vs ≡ false → (false ≡ rebuildable sh e qs vs) × (vs ≡ rebuilding sh curve e qs vs)
+    refused h = (sym h, unfold rebuilding in (rw h))
+
+    done : rebuildable sh e qs vs ≡ true → (true ≡ rebuildable sh e qs vs) × (rebuilt (layering sh curve) e qs ≡ rebuilding sh curve e qs vs)
+    done h = (sym h, unfold rebuilding in (rw h))
+
+settled-requires : tie.Need-settled-requires
+settled-requires c κs = search needs
+
+returns : tie.Need-returns
+returns c =
+    let a = c .before .before in
+    let qs = now (a .args .coefficients) in
+    let vs = now (a .args .values) in
+    refused (a .args .shape) (a .args .step) qs vs (a .args .curve)
+    (no-shape (a .args .shape) (a .args .step) qs vs (sym (c .before .settled .ensures) ∙ not-true (c .before .settled .result) (c .if1 .taken)))
+
+-- where the shape and the step are accepted
+abbrev A : tie.Else1 → tie.Start
+A s = s .before .before
+
+yes : (s : tie.Else1) → settled (A s .args .shape) (A s .args .step) ≡ true
+yes s = sym (s .before .settled .ensures) ∙ not-false (s .before .settled .result) (s .if1 .left)
+
+ok : (s : tie.Else1) → (accepted (A s .args .shape) ≡ true) × (A s .args .step ≤ stepMost)
+ok s = settled-yes (A s .args .shape) (A s .args .step) (yes s)
+
+mul-points : tie.Need-mul-points
+mul-points c = omega (arith, accepted-yes (A c .args .shape) (ok c .0) .small)
+
+returns-2 : tie.Need-returns-2
+returns-2 c =
+    let a = A (c .before) in
+    let qs = now (a .args .coefficients) in
+    let vs = now (a .args .values) in
+    refused (a .args .shape) (a .args .step) qs vs (a .args .curve) (no-coefficients (a .args .shape) (a .args .step) qs vs (c .if2 .taken))
+
+returns-3 : tie.Need-returns-3
+returns-3 c =
+    let a = A (c .before .before) in
+    let qs = now (a .args .coefficients) in
+    let vs = now (a .args .values) in
+    refused (a .args .shape) (a .args .step) qs vs (a .args .curve) (no-values (a .args .shape) (a .args .step) qs vs (c .if3 .taken))
+
+rebuild-layers-requires : tie.Need-rebuild-layers-requires
+rebuild-layers-requires c κs =
+    let e = c .before in
+    (ok (e .before .before), (e .before .if2 .left, e .if3 .left))
+
+same-length : tie.Need-same-length
+same-length c = search needs
+
+returns-4 : tie.Need-returns-4
+returns-4 c =
+    let e = c .before .before .before in
+    let s = e .before .before in
+    let a = A s in
+    let qs = now (a .args .coefficients) in
+    let vs = now (a .args .values) in
+    let d = done (a .args .shape) (a .args .step) qs vs (a .args .curve) (all-there (a .args .shape) (a .args .step) qs vs (yes s) (e .before .if2 .left) (e .if3 .left)) in
+    (d .0, c .before .rebuild-layers .ensures ∙ d .1)
+
+pub rebuild-spec : {M : Type 1} → statement M
+rebuild-spec =
+    tie.close
+    (tie.spec
+    settled-requires
+    returns
+    mul-points
+    returns-2
+    returns-3
+    rebuild-layers-requires
+    same-length
+    returns-4)

@@ -1,0 +1,36 @@
+-- Each arm knows its direction, and the grid is then the one written there.
+use borrow.Author.Needs.{needs}
+use Rattle.layers.proofs.sheet.grid_for.Statement.{statement}
+use Rattle.layers.proofs.sheet.grid_for.Tie as tie
+
+enum-told : tie.Need-enum-told
+enum-told c = search needs
+
+enum-told-2 : tie.Need-enum-told-2
+enum-told-2 c = search needs
+
+mul-t4 : tie.Need-mul-t4
+mul-t4 c = search needs
+
+mul-t5 : tie.Need-mul-t5
+mul-t5 c = search needs
+
+enum-told-3 : tie.Need-enum-told-3
+enum-told-3 c = search needs
+
+mul-t6 : tie.Need-mul-t6
+mul-t6 c = search needs
+
+returns : tie.Need-returns
+returns c = simp (c .enum-told .given .1)
+
+returns-2 : tie.Need-returns-2
+returns-2 c = simp (c .enum-told2 .given .1)
+
+returns-3 : tie.Need-returns-3
+returns-3 c = simp (c .enum-told3 .given .1)
+
+pub grid-for-spec : {M : Type 1} → statement M
+grid-for-spec =
+    tie.close
+    (tie.spec enum-told enum-told-2 mul-t4 mul-t5 enum-told-3 mul-t6 returns returns-2 returns-3)

@@ -1,0 +1,120 @@
+// Prediction along a line, by one rule for both directions, and the value that a coefficient gives.
+ghost use mathlib.Core.Path.{_≡_};
+ghost use Prim.Native.Nat.{_+_, _-_, _*_, _^_, _<_, _≤_};
+ghost use lib.ListN.{length};
+ghost use Rattle.integers.specs.Distance.{Within};
+ghost use Rattle.layers.specs.Limits.{pointsMost, levelsMost, stepMost};
+ghost use Rattle.layers.specs.Sheet as S;
+ghost use Rattle.layers.specs.Prediction as P;
+ghost use Rattle.layers.specs.Loops as L;
+use crate::Curve;
+use crate::Direction;
+use crate::Shape;
+use crate::sheet::direction_of;
+use crate::sheet::spacing;
+
+// Does the curve take four neighbours of place t on a line of n points?
+fn uses_four(curve: Curve, n: usize, t: usize, s: usize) -> bool
+    requires { ⌜ (s ≤ 2 ^ levelsMost) × (t ≤ pointsMost) ⌝ }
+    ensures { λ r. ⌜ r ≡ P.usesFour curve n t s ⌝ }
+{
+    match curve {
+        Curve::Linear => false,
+        Curve::Cubic => {
+            if 3 * s <= t {
+                return t + 3 * s < n;
+            }
+            false
+        }
+    }
+}
+
+// The value at place t of the line of n points that starts at `start`, `stride` apart.
+fn line_at(values: &[i64], start: usize, stride: usize, n: usize, t: usize) -> i64
+    requires { ⌜ (t < n) × (start + (n - 1) * stride < length (now values)) ⌝ }
+    ensures { λ y. ⌜ y ≡ P.on (now (values .entry)) start stride t ⌝ }
+{
+    values[start + t * stride]
+}
+
+fn linear(b: i64, c: i64) -> i64
+    requires { ⌜ Within L.valueMost b × Within L.valueMost c ⌝ }
+    ensures { λ y. ⌜ y ≡ P.linear b c ⌝ }
+{
+    integers::floor_div(b + c, 2)
+}
+
+fn cubic(a: i64, b: i64, c: i64, d: i64) -> i64
+    requires { ⌜ Within L.valueMost a × Within L.valueMost b × Within L.valueMost c × Within L.valueMost d ⌝ }
+    ensures { λ y. ⌜ y ≡ P.cubic a b c d ⌝ }
+{
+    integers::floor_div(9 * b + 9 * c - a - d, 16)
+}
+
+// What is predicted at place t of a line, an odd multiple of s, with its four neighbours there.
+fn predict_four(values: &[i64], start: usize, stride: usize, n: usize, t: usize, s: usize) -> i64
+    requires { ⌜ L.OnLine (now values) start stride n t s ⌝ }
+    requires { ⌜ (3 * s ≤ t) × (t + 3 * s < n) ⌝ }
+    ensures { λ y. ⌜ y ≡ P.cubic (P.on (now (values .entry)) start stride (t - 3 * s)) (P.on (now (values .entry)) start stride (t - s)) (P.on (now (values .entry)) start stride (t + s)) (P.on (now (values .entry)) start stride (t + 3 * s)) ⌝ }
+{
+    let a = line_at(values, start, stride, n, t - 3 * s);
+    let b = line_at(values, start, stride, n, t - s);
+    let c = line_at(values, start, stride, n, t + s);
+    let d = line_at(values, start, stride, n, t + 3 * s);
+    cubic(a, b, c, d)
+}
+
+// What is predicted at place t of a line, an odd multiple of s.
+fn predict_on(
+    values: &[i64],
+    curve: Curve,
+    start: usize,
+    stride: usize,
+    n: usize,
+    t: usize,
+    s: usize,
+) -> i64
+    requires { ⌜ L.OnLine (now values) start stride n t s ⌝ }
+    ensures { λ y. ⌜ y ≡ P.line curve (now (values .entry)) start stride n t s ⌝ }
+{
+    if uses_four(curve, n, t, s) {
+        return predict_four(values, start, stride, n, t, s);
+    }
+    let before = line_at(values, start, stride, n, t - s);
+    if t + s < n {
+        let after = line_at(values, start, stride, n, t + s);
+        return linear(before, after);
+    }
+    before
+}
+
+// What is predicted at a point of a layer.
+pub(crate) fn predict(
+    values: &[i64],
+    shape: Shape,
+    curve: Curve,
+    layer: usize,
+    row: usize,
+    col: usize,
+) -> i64
+    requires { ⌜ L.AtPoint shape layer row col × (length (now values) ≡ S.points shape) × L.Below L.valueMost shape curve layer (now values) ⌝ }
+    ensures { λ y. ⌜ y ≡ P.predicted shape curve (S.direction layer) (S.spacing (shape .levels) layer) (now (values .entry)) row col ⌝ }
+{
+    let rows = shape.rows;
+    let cols = shape.cols;
+    let dir = direction_of(layer);
+    let s = spacing(shape.levels, layer);
+    match dir {
+        Direction::Anchor => 0,
+        Direction::Across => predict_on(values, curve, row * cols, 1, cols, col, s),
+        Direction::Down => predict_on(values, curve, col, cols, rows, row, s),
+    }
+}
+
+// The value that a coefficient gives where y is predicted.
+pub(crate) fn value(y: i64, q: i32, step: u64) -> i64
+    requires { ⌜ Within (2 * L.valueMost) y × (step ≤ stepMost) ⌝ }
+    ensures { λ v. ⌜ v ≡ P.rebuiltFrom y q step ⌝ }
+{
+    y + q as i64 * (2 * step + 1) as i64
+}

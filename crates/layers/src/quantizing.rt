@@ -1,0 +1,141 @@
+// Samples to coefficients and values, layer by layer, in place.
+ghost use mathlib.Core.Path.{_≡_};
+ghost use Prim.Native.Nat.{_*_, _≤_};
+ghost use lib.ListN.{length};
+ghost use Rattle.integers.specs.Distance.{Within};
+ghost use Rattle.layers.specs.Limits.{stepMost, sampleMost};
+ghost use Rattle.layers.specs.Sheet as S;
+ghost use Rattle.layers.specs.Prediction as P;
+ghost use Rattle.layers.specs.Layering as Y;
+ghost use Rattle.layers.specs.Calls as C;
+ghost use Rattle.layers.specs.Loops as L;
+use crate::Curve;
+use crate::Quantized;
+use crate::Scan;
+use crate::Shape;
+use crate::prediction::predict;
+use crate::prediction::value;
+use crate::sheet::grid_of;
+use crate::sheet::settled;
+
+const MOST_SAMPLE: i32 = 1048575;
+
+fn in_range(sample: i32) -> bool
+    ensures { λ r. ⌜ r ≡ C.inRange sample ⌝ }
+{
+    if -MOST_SAMPLE <= sample {
+        return sample <= MOST_SAMPLE;
+    }
+    false
+}
+
+// The first sample out of range, in row order.
+fn scan_samples(samples: &[i32], rows: usize, cols: usize) -> Scan
+    requires { ⌜ length (now samples) ≡ rows * cols ⌝ }
+    ensures { λ r. ⌜ r ≡ C.scanned cols (now (samples .entry)) ⌝ }
+{
+    let mut found = Scan::Clear;
+    'rows: for row in 0..rows {
+        for col in 0..cols {
+            if !in_range(samples[row * cols + col]) {
+                found = Scan::OutAt { row, col };
+                break 'rows;
+            }
+        }
+    }
+    found
+}
+
+// The coefficient of a sample where y is predicted.
+fn coefficient(sample: i32, y: i64, step: u64) -> i32
+    requires { ⌜ Within sampleMost sample × Within L.predictedMost y × (step ≤ stepMost) ⌝ }
+    ensures { λ q. ⌜ q ≡ P.coefficientOf sample y step ⌝ }
+{
+    integers::floor_div(sample as i64 - y + step as i64, 2 * step + 1) as i32
+}
+
+// One layer of coefficients and values, in place.
+fn quantize_layer(
+    samples: &[i32],
+    shape: Shape,
+    curve: Curve,
+    step: u64,
+    layer: usize,
+    coefficients: &mut [i32],
+    values: &mut [i64],
+)
+    requires { ⌜ L.Samples shape step (now samples) × (layer ≤ 2 * shape .levels) ⌝ }
+    requires { ⌜ (length (now coefficients) ≡ S.points shape) × (length (now values) ≡ S.points shape) × L.Below L.writtenMost shape curve layer (now values) ⌝ }
+    ensures { λ _. ⌜ (now (coefficients .exit) ≡ Y.layerBy (Y.layering shape curve) layer (Y.makes step (now (samples .entry))) (now (values .entry)) (now (coefficients .entry))) × (now (values .exit) ≡ Y.layerBy (Y.layering shape curve) layer (Y.writes step (now (samples .entry))) (now (values .entry)) (now (values .entry))) ⌝ }
+{
+    let rows = shape.rows;
+    let cols = shape.cols;
+    let g = grid_of(shape.levels, layer);
+    let mut row = g.row;
+    while row < rows {
+        let mut col = g.col;
+        while col < cols {
+            let p = row * cols + col;
+            let y = predict(values, shape, curve, layer, row, col);
+            let q = coefficient(samples[p], y, step);
+            let v = value(y, q, step);
+            coefficients[p] = q;
+            values[p] = v;
+            col += g.right;
+        }
+        row += g.down;
+    }
+}
+
+fn quantize_layers(
+    samples: &[i32],
+    shape: Shape,
+    curve: Curve,
+    step: u64,
+    coefficients: &mut [i32],
+    values: &mut [i64],
+)
+    requires { ⌜ L.Samples shape step (now samples) ⌝ }
+    requires { ⌜ (length (now coefficients) ≡ S.points shape) × (length (now values) ≡ S.points shape) ⌝ }
+    ensures { λ _. ⌜ (now (coefficients .exit) ≡ Y.coefs (Y.layering shape curve) step (now (samples .entry))) × (now (values .exit) ≡ Y.written (Y.layering shape curve) step (now (samples .entry))) ⌝ }
+{
+    let layers = 1 + 2 * shape.levels;
+    for layer in 0..layers {
+        quantize_layer(samples, shape, curve, step, layer, coefficients, values);
+    }
+}
+
+// Samples to coefficients and values. Where a size is not right or a sample is out of range, nothing changes.
+pub fn quantize(
+    samples: &[i32],
+    shape: Shape,
+    curve: Curve,
+    step: u64,
+    coefficients: &mut [i32],
+    values: &mut [i64],
+) -> Quantized
+    ensures { λ r. ⌜ (r ≡ C.quantizing shape curve step (now (samples .entry)) (now (coefficients .entry)) (now (values .entry)) .answer) × (now (coefficients .exit) ≡ C.quantizing shape curve step (now (samples .entry)) (now (coefficients .entry)) (now (values .entry)) .coefficients) × (now (values .exit) ≡ C.quantizing shape curve step (now (samples .entry)) (now (coefficients .entry)) (now (values .entry)) .values) ⌝ }
+{
+    if !settled(shape, step) {
+        return Quantized::Refused;
+    }
+    let rows = shape.rows;
+    let cols = shape.cols;
+    let points = rows * cols;
+    if samples.len() != points {
+        return Quantized::Refused;
+    }
+    if coefficients.len() != points {
+        return Quantized::Refused;
+    }
+    if values.len() != points {
+        return Quantized::Refused;
+    }
+    match scan_samples(samples, rows, cols) {
+        Scan::OutAt { row, col } => Quantized::OutOfRange { row, col },
+        Scan::Clear => {
+            quantize_layers(samples, shape, curve, step, coefficients, values);
+            Quantized::Done
+        }
+    }
+}
