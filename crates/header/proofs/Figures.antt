@@ -1,0 +1,76 @@
+-- The figure of a plan: the step and what stands of the losses. A full plan loses nothing, and no plan loses more than one that loads nothing, which the limits bound.
+use mathlib.Core.Path.{_≡_}
+use Prim.Native.Nat.{ℕ, _+_, _-_, _*_, _^_, _<_, _≤_}
+use native.Mathlib.Nat.{le-trans, mul-le-mul, mul-le-mul-right, zero-mul}
+use native.Mathlib.Omega.{arith}
+use Rattle.integers.specs.Floor.{ceilDiv}
+use Rattle.layers.specs.Limits.{layersMost, stepMost}
+use Rattle.layers.specs.Sheet.{layers}
+use Rattle.layers.specs.Prediction.{width}
+use Rattle.layers.specs.Carry.{carried, standing}
+use Rattle.layers.proofs.Range.{limit, limit-all}
+use Rattle.layers.proofs.Standing.{standing-mono}
+use Rattle.header.specs.declared.Header.{Header}
+use Rattle.header.specs.Header.{placesMost, planesOf}
+use Rattle.header.specs.Figure.{ownLoss, figureOf}
+use Rattle.header.proofs.Rightness.{Right, counts-few, layers-few}
+use Rattle.header.proofs.Limits.{lossMost, loss-rises, loss-none, loss-most, standing-none, standing-limit}
+
+module _ (h : Header) where
+  -- "The figure is e plus the result"
+  pub figure-least : (plan : ℕ → ℕ) → h .step ≤ figureOf h plan
+  unfolding figureOf
+  figure-least plan = omega arith
+
+  -- with every plane loaded nothing is lost
+  pub figure-full : (plan : ℕ → ℕ) → ((k : ℕ) → k < layers (h .shape) → planesOf h k ≤ plan k) → figureOf h plan ≡ h .step
+  unfolding figureOf
+  figure-full plan full =
+      omega (
+        arith,
+        standing-none (h .shape) (h .curve) (ownLoss h plan) (layers (h .shape))
+            (λ j l. let e : planesOf h j - plan j ≡ 0 = omega (arith, full j l) in rw (e, loss-none) (zero-mul (width (h .step)))),
+      )
+
+  pub figure-all : figureOf h (planesOf h) ≡ h .step
+  figure-all = figure-full (planesOf h) (λ k _. omega arith)
+
+  -- a plan that loads no less has no larger figure
+  pub figure-falls : (plan more : ℕ → ℕ) → ((k : ℕ) → plan k ≤ more k) → figureOf h more ≤ figureOf h plan
+  unfolding figureOf
+  figure-falls plan more le =
+      omega (
+        arith,
+        standing-mono (h .shape) (h .curve) (ownLoss h more) (ownLoss h plan)
+            (λ k. mul-le-mul-right (width (h .step)) (loss-rises (planesOf h k - more k) (planesOf h k - plan k) (omega (arith, le k)))) (layers (h .shape)),
+      )
+
+-- ---- the limits of a right header
+abbrev pub ownMost : ℕ
+ownMost = lossMost * (2 * stepMost + 1)
+
+abbrev pub standingMost : ℕ
+standingMost = 2 ^ 46
+
+module _ {h : Header} (r : Right h) (plan : ℕ → ℕ) where
+  pub missing-few : (k : ℕ) → k < layersMost → planesOf h k - plan k ≤ placesMost
+  missing-few k l = omega (arith, counts-few r k l)
+
+  pub own-most : (k : ℕ) → k < layersMost → ownLoss h plan k ≤ ownMost
+  own-most k l = mul-le-mul (loss-most (planesOf h k - plan k) (missing-few k l)) wide
+    where
+      wide : width (h .step) ≤ 2 * stepMost + 1
+      wide = unfold width in (omega (arith, r .step))
+
+  -- what stands after any layer
+  pub standing-most : (k : ℕ) → k ≤ layers (h .shape) → standing (h .shape) (h .curve) (ownLoss h plan) k ≤ standingMost
+  standing-most k l =
+      le-trans (standing-limit (h .shape) (h .curve) (ownLoss h plan) lossMost k (λ j i. own-most j (omega (arith, layers-few r))))
+      (le-trans (limit-all lossMost k layersMost (omega (arith, layers-few r))) top)
+    where
+      top : limit lossMost layersMost ≤ standingMost
+      top = unfold limit carried ceilDiv in (omega arith)
+
+  pub figure-most : figureOf h plan ≤ 2 ^ 60
+  unfolding figureOf
+  figure-most = omega (arith, r .step, standing-most (layers (h .shape)) (omega arith))

@@ -1,0 +1,38 @@
+-- An array filled place by place: the places passed hold what they should, and at the end all do.
+use mathlib.Core.List.{List}
+use mathlib.Core.Path.{_≡_, ap, sym, subst, _∙_}
+use Prim.Native.Nat.{ℕ, _+_, _<_, _≤_}
+use native.Mathlib.Decide.{ℕ-discrete}
+use native.Mathlib.Nat.{not-suc-le-zero}
+use native.Mathlib.Omega.{arith}
+use lib.ListN.{length, getD, set, length-set}
+use lib.Seq.{ext-getD, getD-set-same, getD-set-other}
+use Rattle.layers.specs.Lists.{tabulate}
+use Rattle.layers.proofs.Lists.{length-tabulate, getD-tabulate}
+
+pub record Filled (f : ℕ → ℕ) (n k : ℕ) (l : List ℕ) : Type 0 where
+  pub long : length l ≡ n
+  pub done : (i : ℕ) → i < k → getD l i 0 ≡ f i
+
+module _ (f : ℕ → ℕ) (n : ℕ) where
+  pub filled-none : (l : List ℕ) → length l ≡ n → Filled f n 0 l
+  filled-none l e = record { long = e; done = λ i h. absurd (not-suc-le-zero h) }
+
+  pub filled-more : {l : List ℕ} {k : ℕ} (v : ℕ) → v ≡ f k → k < n → Filled f n k l → Filled f n (k + 1) (set l k v)
+  filled-more {l} {k} v e h w =
+      record {
+        long = length-set l k v ∙ w .long;
+        done = λ i m.
+            elim (ℕ-discrete i k) [
+              | yes q ↦ subst (λ (x : ℕ). getD (set l k v) x 0 ≡ f x) (sym q) (getD-set-same l k v 0 (omega (arith, w .long)) ∙ e)
+              | no q ↦ getD-set-other l k i v 0 q ∙ w .done i (omega arith)
+            ];
+      }
+
+  pub filled-all : {l : List ℕ} {k : ℕ} → n ≤ k → Filled f n k l → l ≡ tabulate n f
+  filled-all {l} {k} h w =
+      ext-getD 0 l (tabulate n f) (w .long ∙ sym (length-tabulate n f))
+      (λ i m. w .done i (omega (arith, w .long)) ∙ sym (getD-tabulate n f i 0 (omega (arith, w .long))))
+
+  pub filled-same : (g : ℕ → ℕ) {l : List ℕ} {k : ℕ} → ((i : ℕ) → i < k → f i ≡ g i) → Filled f n k l → Filled g n k l
+  filled-same g e w = record { long = w .long; done = λ i h. w .done i h ∙ e i h }

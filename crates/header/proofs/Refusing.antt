@@ -1,0 +1,70 @@
+-- What opening answers: line by line, it is a refusal 5, 6 or 7 with a blank header and the length 0, or it accepts.
+use mathlib.Core.List.{List}
+use mathlib.Core.Path.{_≡_, refl}
+use Prim.Native.Nat.{ℕ, _+_, _*_, _/_, _≤_}
+use native.Mathlib.Omega.{arith}
+use lib.Dec.{ltb}
+use lib.ListN.{length, drop}
+use Rattle.layers.specs.declared.Shape.{Shape}
+use Rattle.layers.specs.declared.Curve.{Curve}
+use Rattle.layers.specs.Limits.{pointsMost, levelsMost, stepMost}
+use Rattle.text.specs.Line.{newline, before, lineAt}
+use Rattle.header.specs.declared.Header.{Header}
+use Rattle.header.specs.Refusals.{refusal}
+use Rattle.header.specs.Header.{cellBytes, ascii}
+use Rattle.header.specs.Opening.{Opening, no, curveLine, curveOf, padded, openingCells, openingPlanes, openingStep, openingCurve, openingLevels, openingCols, opening}
+use Rattle.header.proofs.Turns.{turn, turn-planes, turn-last}
+use Rattle.header.proofs.HeaderLines.{sized, headed, Accepts, accepting}
+
+pub data Answer : Opening → Type 0 where
+  accepts : (h : Header) (long : ℕ) → Answer (accepting h long)
+  cut : Answer (no (refusal 5 0 0))
+  wrong : (line : ℕ) → 1 ≤ line → line ≤ 7 → Answer (no (refusal 6 line 0))
+  trailing : Answer (no (refusal 7 0 0))
+
+module _ (bs : List ℕ) where
+  cells-answer : (h : Header) (at : ℕ) → Answer (openingCells bs h at)
+  unfolding openingCells
+  cells-answer h at =
+      turn Answer 7 (lineAt (ascii "cells=") (h .cells) (h .cells) (drop at bs)) _ cut (wrong 7 (omega arith) (omega arith)) (λ _ n _.
+      turn-last Answer (ltb (at + n + cellBytes * h .cells) (length bs)) (no (refusal 7 0 0)) (accepting h (at + n)) (λ _. trailing) (λ _. accepts h (at + n)))
+
+  planes-answer : (sh : Shape) (curve : Curve) (step at : ℕ) → Answer (openingPlanes bs sh curve step at)
+  unfolding openingPlanes
+  planes-answer sh curve step at = turn-planes Answer sh (drop at bs) (λ planes n. openingCells bs (headed sh curve step planes) (at + n)) cut (wrong 6 (omega arith) (omega arith)) (λ counts _. cells-answer (headed sh curve step (padded counts)) (at + (before newline (drop at bs) + 1)))
+
+  step-answer : (sh : Shape) (curve : Curve) (at : ℕ) → Answer (openingStep bs sh curve at)
+  unfolding openingStep
+  step-answer sh curve at =
+      turn Answer 5 (lineAt (ascii "step=") 0 stepMost (drop at bs)) (λ step n. openingPlanes bs sh curve step (at + n)) cut (wrong 5 (omega arith) (omega arith)) (λ step n _. planes-answer sh curve step (at + n))
+
+  curve-answer : (sh : Shape) (at : ℕ) → Answer (openingCurve bs sh at)
+  unfolding openingCurve
+  curve-answer sh at = turn Answer 4 (curveLine (drop at bs)) (λ v n. openingStep bs sh (curveOf v) (at + n)) cut (wrong 4 (omega arith) (omega arith)) (λ v n _. step-answer sh (curveOf v) (at + n))
+
+  levels-answer : (rows cols at : ℕ) → Answer (openingLevels bs rows cols at)
+  unfolding openingLevels
+  levels-answer rows cols at =
+      turn Answer 3 (lineAt (ascii "levels=") 0 levelsMost (drop at bs)) (λ levels n. openingCurve bs (sized rows cols levels) (at + n)) cut (wrong 3 (omega arith) (omega arith)) (λ levels n _. curve-answer (sized rows cols levels) (at + n))
+
+  cols-answer : (rows at : ℕ) → Answer (openingCols bs rows at)
+  unfolding openingCols
+  cols-answer rows at =
+      turn Answer 2 (lineAt (ascii "cols=") 1 (pointsMost / rows) (drop at bs)) (λ cols n. openingLevels bs rows cols (at + n)) cut (wrong 2 (omega arith) (omega arith)) (λ cols n _. levels-answer rows cols (at + n))
+
+  pub answers : Answer (opening bs)
+  unfolding opening
+  answers = turn Answer 1 (lineAt (ascii "rows=") 1 pointsMost bs) (openingCols bs) cut (wrong 1 (omega arith) (omega arith)) (λ rows n _. cols-answer rows n)
+
+-- beside a refusal the header is blank and the length 0
+pub refused-blank : {o : Opening} → Answer o → (Accepts o → ⊥) → o ≡ no (o .refused)
+refused-blank (accepts h long) n = absurd (n refl)
+refused-blank cut n = refl
+refused-blank (wrong line l m) n = refl
+refused-blank trailing n = refl
+
+pub accepts-plainly : {o : Opening} → Answer o → Accepts o → o ≡ accepting (o .header) (o .long)
+accepts-plainly (accepts h long) e = refl
+accepts-plainly cut e = absurd (let z : ⊥ = omega arith in z)
+accepts-plainly (wrong line l m) e = absurd (let z : ⊥ = omega arith in z)
+accepts-plainly trailing e = absurd (let z : ⊥ = omega arith in z)

@@ -1,0 +1,96 @@
+-- How long a header's text is: its seven keys and ends are 48 bytes, the curve at most 6, a u64 at most 20 and a count with its comma one more.
+use mathlib.Core.List.{List}
+use mathlib.Core.Path.{_≡_}
+use Prim.Native.Nat.{ℕ, _+_, _*_, _^_, _<_, _≤_, min}
+use native.Mathlib.Nat.{mul-le-mul-left, mul-le-mul-right}
+use native.Mathlib.Omega.{arith}
+use lib.ListN.{length, take, length-append, length-take}
+use lib.Seq.{getD-take}
+use Rattle.layers.specs.declared.Curve.{Curve}
+use Rattle.layers.specs.declared.Curve.the-variants.{Linear, Cubic}
+use Rattle.layers.specs.Limits.{layersMost}
+use Rattle.layers.proofs.Accepting.{Sheet, accepted-yes}
+use Rattle.text.specs.Decimal.{digits}
+use Rattle.text.proofs.Digits.{length-le, length-20}
+use Rattle.text.proofs.Lines.{line-length}
+use Rattle.header.specs.declared.Header.{Header}
+use Rattle.header.specs.Header.{asciiFrom, cellBytes, curveText, listText, listed, planesOf, textMost, headerText}
+use Rattle.header.proofs.Rightness.{Right, counts-few}
+use Rattle.header.proofs.ListText.{list-length}
+use Rattle.header.proofs.Total.{right-cells}
+
+curve-length : (c : Curve) → length (curveText c) ≤ 6
+unfolding asciiFrom
+curve-length Linear = omega arith
+curve-length Cubic = omega arith
+
+module _ (h : Header) where
+  abbrev counts : List ℕ
+  counts = take (listed (h .shape .levels)) (h .planes)
+
+  pub text-length :
+      length (headerText h) ≡
+      48 + length (digits (h .shape .rows)) + length (digits (h .shape .cols)) + length (digits (h .shape .levels)) + length (curveText (h .curve)) + length (digits (h .step)) + length (listText counts) + length (digits (h .cells))
+  unfolding headerText asciiFrom
+  text-length = simp (length-append, line-length) (omega arith)
+
+  counts-length : length counts ≤ layersMost
+  unfolding listed
+  counts-length = omega (arith, length-take (min (1 + 2 * h .shape .levels) layersMost) (h .planes))
+
+  listed-most : (d : ℕ) → ((k : ℕ) → k < layersMost → length (digits (planesOf h k)) ≤ d) → length (listText counts) ≤ (d + 1) * layersMost
+  listed-most d few =
+      omega (
+        arith,
+        mul-le-mul-left (d + 1) counts-length,
+        list-length d counts
+            (λ i l.
+            let inside : i < listed (h .shape .levels) = omega (arith, length-take (listed (h .shape .levels)) (h .planes)) in
+            rw (getD-take (listed (h .shape .levels)) (h .planes) i 0 inside) (few i (omega (arith, counts-length)))),
+      )
+
+  -- ---- any header of u64
+  pub text-fits : h .shape .rows < 2 ^ 64 → h .shape .cols < 2 ^ 64 → h .shape .levels < 2 ^ 64 → h .step < 2 ^ 64 → h .cells < 2 ^ 64
+      → ((k : ℕ) → k < layersMost → planesOf h k < 2 ^ 64) → length (headerText h) ≤ textMost
+  text-fits r c l s n few =
+      omega (
+        arith,
+        text-length,
+        curve-length (h .curve),
+        listed-most 20 (λ k i. length-20 (planesOf h k) (few k i)),
+        length-20 (h .shape .rows) r,
+        length-20 (h .shape .cols) c,
+        length-20 (h .shape .levels) l,
+        length-20 (h .step) s,
+        length-20 (h .cells) n,
+      )
+
+-- ---- a right header: with its cells it fits in 32,768 bytes
+abbrev pub rightText : ℕ
+rightText = 384
+
+pub right-fits : {h : Header} → Right h → length (headerText h) ≤ rightText
+right-fits {h} r =
+    omega (
+      arith,
+      text-length h,
+      curve-length (h .curve),
+      listed-most h 2 (λ k i. length-le 1 (planesOf h k) (omega (arith, counts-few r k i))),
+      length-le 3 (h .shape .rows) rows-few,
+      length-le 3 (h .shape .cols) cols-few,
+      length-le 0 (h .shape .levels) (omega (arith, sizes .shallow)),
+      length-le 4 (h .step) (omega (arith, r .step)),
+      length-le 3 (h .cells) (omega (arith, right-cells r)),
+    )
+  where
+    sizes : Sheet (h .shape)
+    sizes = accepted-yes (h .shape) (r .shape)
+
+    rows-few : h .shape .rows < 10 ^ 4
+    rows-few = omega (arith, sizes .small, mul-le-mul-left (h .shape .rows) (sizes .wide))
+
+    cols-few : h .shape .cols < 10 ^ 4
+    cols-few = omega (arith, sizes .small, mul-le-mul-right (h .shape .cols) (sizes .tall))
+
+pub card-fits : {h : Header} → Right h → length (headerText h) + cellBytes * h .cells ≤ 32768
+card-fits r = omega (arith, right-fits r, right-cells r)

@@ -1,0 +1,75 @@
+-- At most 1,012 cells: a plane of a layer wastes less than one cell, and the layers together have at most 8,192 points, so one plane of each of at most 13 layers is at most (8192 + 13 × 255) / 256 = 44 cells; and a layer has at most 23 planes.
+use mathlib.Core.Bool.{true, _&&_}
+use mathlib.Core.List.{List}
+use mathlib.Core.Path.{_≡_}
+use Prim.Native.Nat.{ℕ, zero, suc, _+_, _*_, _<_, _≤_}
+use native.Mathlib.Nat.{le-refl, le-trans, mul-le-mul-left}
+use native.Mathlib.Omega.{arith}
+use lib.Dec.{ltb}
+use lib.ListN.{getD}
+use Rattle.integers.specs.Floor.{ceilDiv}
+use Rattle.layers.specs.declared.Shape.{Shape}
+use Rattle.layers.specs.Lists.{total}
+use Rattle.layers.specs.Sheet.{accepted, layers, layerSize}
+use Rattle.layers.specs.Calls.{sizing}
+use Rattle.layers.proofs.Accepting.{accepted-yes}
+use Rattle.integers.proofs.Bools.{by, and-left}
+use Rattle.layers.proofs.Places.{size-most}
+use Rattle.layers.proofs.Size.{layers-fill}
+use Rattle.header.specs.declared.Header.{Header}
+use Rattle.header.specs.Header.{placesMost, cellPoints, cellsMost, planeCells, cellsAt, cellsOf}
+use Rattle.header.specs.CardOrder.{widthMost}
+use Rattle.header.proofs.Rightness.{Right, counts-few, layers-few}
+use Rattle.header.proofs.Totals.{total-rises}
+
+-- a plane wastes less than a cell
+pub plane-waste : (sh : Shape) (k : ℕ) → cellPoints * planeCells sh k ≤ layerSize sh k + 255
+unfolding planeCells ceilDiv
+plane-waste sh k = omega arith
+
+-- and has room for every point
+pub plane-room : (sh : Shape) (k : ℕ) → layerSize sh k ≤ cellPoints * planeCells sh k
+unfolding planeCells ceilDiv
+plane-room sh k = omega arith
+
+wastes : (f g : ℕ → ℕ) → ((k : ℕ) → cellPoints * f k ≤ g k + 255) → (n : ℕ) → cellPoints * total f n ≤ total g n + 255 * n
+unfolding total
+wastes f g h zero = omega arith
+wastes f g h (suc n) = omega (arith, h n, wastes f g h n)
+
+products : (c p : ℕ → ℕ) (b n : ℕ) → ((k : ℕ) → k < n → p k ≤ b) → total (λ k. c k * p k) n ≤ b * total c n
+unfolding total
+products c p b zero h = omega arith
+products c p b (suc n) h = omega (arith, mul-le-mul-left (c n) (h n (le-refl (suc n))), products c p b n (λ k l. h k (omega arith)))
+
+module _ (sh : Shape) (ok : accepted sh ≡ true) where
+  pub plane-most : (k : ℕ) → planeCells sh k ≤ widthMost
+  plane-most k = omega (arith, plane-waste sh k, size-most sh k, accepted-yes sh ok .small)
+
+  -- one plane of each layer
+  pub layers-most : total (planeCells sh) (layers sh) ≤ 44
+  layers-most = omega (arith, wastes (planeCells sh) (layerSize sh) (plane-waste sh) (layers sh), layers-fill sh ok, accepted-yes sh ok .small, accepted-yes sh ok .shallow)
+
+  module _ (planes : List ℕ) (few : (k : ℕ) → k < layers sh → getD planes k 0 ≤ placesMost) where
+    pub cells-most : cellsOf sh planes ≤ cellsMost
+    unfolding cellsOf
+    cells-most = omega (arith, layers-most, products (planeCells sh) (λ k. getD planes k 0) placesMost (layers sh) few)
+
+    -- and so the sum of the first layers
+    pub part-most : (n : ℕ) → n ≤ layers sh → total (λ k. planeCells sh k * getD planes k 0) n ≤ cellsMost
+    part-most n h = le-trans (total-rises _ n (layers sh) h) (unfold cellsOf in cells-most)
+
+pub right-cells : {h : Header} → Right h → h .cells ≤ cellsMost
+right-cells {h} r = omega (arith, r .cells, cells-most (h .shape) (r .shape) (h .planes) (λ k l. counts-few r k (omega (arith, layers-few r))))
+
+-- ---- the cells of one plane as the code works them out: from the layer's size, 0 where the layer is not there
+pub at-sizing : (sh : Shape) (k : ℕ) → cellsAt sh k ≡ ceilDiv (sizing sh k) cellPoints
+unfolding cellsAt sizing planeCells ceilDiv
+at-sizing sh k = by (accepted sh && ltb k (layers sh)) (λ t. rw t) (λ t. rw t (omega arith))
+
+pub at-most : (sh : Shape) (k : ℕ) → cellsAt sh k ≤ widthMost
+unfolding cellsAt
+at-most sh k =
+    by (accepted sh && ltb k (layers sh))
+    (λ t. rw t (plane-most sh (and-left (accepted sh) (ltb k (layers sh)) t) k))
+    (λ t. rw t (omega arith))

@@ -1,0 +1,93 @@
+-- Invariant: the sum so far is that of the layers passed. Each adds at most 736, and there are at most 13.
+use mathlib.Core.Path.{_≡_, refl, ap, ap₂, _∙_}
+use Prim.Native.Nat.{ℕ, _≤_, _+_, _*_, _-_}
+use native.Mathlib.Numerals.{add-one}
+use native.Mathlib.Omega.{arith}
+use lib.ListN.{getD}
+use borrow.Author.Needs.{needs}
+use Rattle.layers.proofs.Accepting.{Sheet, accepted-yes}
+use Rattle.layers.specs.Lists.{total}
+use Rattle.header.specs.Header.{planeCells, cellsOf}
+use Rattle.header.proofs.Cells.{cells-there, layer-cells-most, cells-most}
+use Rattle.header.proofs.planes.cells_of.Statement.{statement}
+use Rattle.header.proofs.planes.cells_of.Tie as tie
+
+abbrev Inv-loop : tie.InvT-loop
+Inv-loop shape planes layers cells₀ k₀ cells k = (k ≤ layers) × (cells ≡ total (λ j. planeCells shape j * getD planes j 0) k)
+
+abbrev μ-loop : tie.MeasureT-loop
+μ-loop shape planes layers cells₀ k₀ cells k = layers - k
+
+ok : (s : tie.Start Inv-loop μ-loop) → Sheet (s .args .shape)
+ok s = accepted-yes (s .args .shape) (s .pre .0)
+
+abbrev S : tie.After-plane-cells Inv-loop μ-loop → tie.Start Inv-loop μ-loop
+S c = c .before .before .before .before
+
+-- the cells of this turn's layer
+here : (c : tie.After-plane-cells Inv-loop μ-loop) → c .plane-cells .result * getD (S c .args .t2) (c .before .before .loop .k) 0 ≡ planeCells (S c .args .shape) (c .before .before .loop .k) * getD (S c .args .t2) (c .before .before .loop .k) 0
+here c = ap (λ (n : ℕ). n * getD (S c .args .t2) (c .before .before .loop .k) 0) (c .plane-cells .ensures ∙ cells-there (S c .args .shape) (S c .pre .0) (c .before .before .loop .k) (omega arith))
+
+bound : (c : tie.After-plane-cells Inv-loop μ-loop) → planeCells (S c .args .shape) (c .before .before .loop .k) * getD (S c .args .t2) (c .before .before .loop .k) 0 ≤ 736
+bound c = layer-cells-most (S c .args .shape) (S c .pre .0) (S c .args .t2) (S c .pre .1) (c .before .before .loop .k)
+
+sofar : (c : tie.After-plane-cells Inv-loop μ-loop) → c .before .before .loop .cells ≤ 736 * c .before .before .loop .k
+sofar c = omega (arith, c .before .before .loop .inv .1, cells-most (S c .args .shape) (S c .pre .0) (S c .args .t2) (S c .pre .1) (c .before .before .loop .k))
+
+mul-layers : tie.Need-mul-layers Inv-loop μ-loop
+mul-layers c = omega (arith, ok (c .before) .shallow)
+
+add-layers : tie.Need-add-layers Inv-loop μ-loop
+add-layers c = omega (arith, ok (c .before) .shallow)
+
+loop-holds : tie.Need-loop-holds Inv-loop μ-loop
+unfolding total
+loop-holds c = (omega arith, refl)
+
+plane-cells-requires : tie.Need-plane-cells-requires Inv-loop μ-loop
+plane-cells-requires c κs = search needs
+
+mul-cells : tie.Need-mul-cells Inv-loop μ-loop
+mul-cells c = omega (arith, ok (S c) .shallow)
+
+array-read-cells : tie.Need-array-read-cells Inv-loop μ-loop
+array-read-cells c = omega (arith, ok (S c) .shallow)
+
+mul-cells-2 : tie.Need-mul-cells-2 Inv-loop μ-loop
+mul-cells-2 c = omega (arith, here c, bound c)
+
+add-cells : tie.Need-add-cells Inv-loop μ-loop
+add-cells c = omega (arith, here c, bound c, sofar c, ok (S c) .shallow)
+
+add-k : tie.Need-add-k Inv-loop μ-loop
+add-k c = omega (arith, ok (S c) .shallow)
+
+loop-less : tie.Need-loop-less Inv-loop μ-loop
+loop-less c = omega arith
+
+loop-again : tie.Need-loop-again Inv-loop μ-loop
+unfolding total
+loop-again c = (omega arith, rw add-one (ap₂ (λ (a b : ℕ). a + b) (c .before .before .loop .inv .1) (here c)))
+
+returns : tie.Need-returns Inv-loop μ-loop
+unfolding cellsOf
+returns c = c .before .loop .inv .1 ∙ ap (total (λ j. planeCells (c .before .before .before .args .shape) j * getD (c .before .before .before .args .t2) j 0)) (omega arith)
+
+pub cells-of-spec : {M : Type 1} → statement M
+cells-of-spec =
+    tie.close
+    (tie.spec
+    Inv-loop
+    μ-loop
+    mul-layers
+    add-layers
+    loop-holds
+    plane-cells-requires
+    mul-cells
+    array-read-cells
+    mul-cells-2
+    add-cells
+    add-k
+    loop-less
+    loop-again
+    returns)

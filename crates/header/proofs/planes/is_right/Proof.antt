@@ -1,0 +1,108 @@
+-- The tests in turn, each the test of `right` at its place. The limits of the 13 layers are those of the shape, so a count that passes is at most 23, as the sum of the cells asks.
+use Prim.Native.Nat.{ℕ, _<_, _≤_}
+use mathlib.Core.Bool.{true, false}
+use mathlib.Core.Path.{_≡_, refl, sym, ap, _∙_}
+use native.Mathlib.Decide.{decLt}
+use native.Mathlib.Omega.{arith}
+use lib.ListN.{length, getD, List·getD-eq-default}
+use borrow.Author.Needs.{needs}
+use borrow.Author.Tests.{not-true, not-false, le-leb, lt-leb, eq-eqb, ne-eqb}
+use Rattle.layers.specs.Limits.{layersMost, stepMost}
+use Rattle.layers.specs.Lists.{tabulate}
+use Rattle.layers.specs.Sheet.{accepted}
+use Rattle.layers.proofs.Lists.{getD-tabulate}
+use Rattle.header.specs.declared.Header.{Header}
+use Rattle.header.specs.Header.{placesMost, planesOf}
+use Rattle.header.specs.Plan.{firstOver}
+use Rattle.header.specs.Opening.{planesMost, right}
+use Rattle.header.proofs.Over.{over-none, over-le}
+use Rattle.header.proofs.Firsts.{over-same}
+use Rattle.header.proofs.Rightness.{most-le}
+use Rattle.header.proofs.planes.is_right.Statement.{statement}
+use Rattle.header.proofs.planes.is_right.Tie as tie
+
+abbrev S : tie.After-accepted → tie.Start
+S c = c .before .before .before
+
+abbrev A : tie.After-first-over → tie.After-accepted
+A c = c .before .before .before .before .before
+
+-- the shape is accepted, or not
+yes-shape : (c : tie.Else1) → accepted (S (c .before) .args .header .shape) ≡ true
+yes-shape c = sym (c .before .accepted .ensures) ∙ not-false _ (c .if1 .left)
+
+no-shape : (c : tie.Then1) → accepted (S (c .before) .args .header .shape) ≡ false
+no-shape c = sym (c .before .accepted .ensures) ∙ not-true _ (c .if1 .taken)
+
+-- the first count over its limit
+over-is : (c : tie.After-first-over) → c .first-over .result ≡ firstOver (planesMost (S (A c) .args .header .shape)) (planesOf (S (A c) .args .header))
+over-is c =
+    let h = S (A c) .args .header in
+    c .first-over .ensures
+    ∙ over-same _ (planesMost (h .shape)) (planesOf h) (λ k l. ap (λ (m : _). getD m k 0) (c .before .limits .ensures) ∙ getD-tabulate layersMost (planesMost (h .shape)) k 0 l)
+
+none-is : (c : tie.Else3) → firstOver (planesMost (S (A (c .before)) .args .header .shape)) (planesOf (S (A (c .before)) .args .header)) ≡ layersMost
+none-is c =
+    let h = S (A (c .before)) .args .header in
+    omega (arith, over-is (c .before), c .if3 .left, over-le (planesMost (h .shape)) (planesOf h))
+
+long : (s : tie.Start) → length (s .args .header .planes) ≡ 13
+long s = search needs
+
+accepted-requires : tie.Need-accepted-requires
+accepted-requires c κs = search needs
+
+returns : tie.Need-returns
+unfolding right
+returns c = rw (no-shape c)
+
+returns-2 : tie.Need-returns-2
+unfolding right
+returns-2 c = rw (yes-shape (c .before .before), lt-leb _ _ (c .if2 .taken))
+
+limits-requires : tie.Need-limits-requires
+limits-requires c κs = yes-shape (c .before .before)
+
+first-over-requires : tie.Need-first-over-requires
+first-over-requires c κs = search needs
+
+returns-3 : tie.Need-returns-3
+unfolding right
+returns-3 c =
+    let f = c .before in
+    let h = S (A f) .args .header in
+    let some : firstOver (planesMost (h .shape)) (planesOf h) ≡ layersMost → ⊥ = λ e. omega (arith, over-is f, c .if3 .taken) in
+    rw (yes-shape (f .before .before .before .before), le-leb _ _ (f .before .before .if2 .left), ne-eqb _ _ some)
+
+cells-of-requires : tie.Need-cells-of-requires
+cells-of-requires c κs =
+    let f = c .before in
+    let s = S (A f) in
+    let h = s .args .header in
+    let few : (k : ℕ) → planesOf h k ≤ placesMost =
+    λ k.
+    elim (decLt k layersMost) [
+      | yes l ↦ omega (arith, over-none (planesMost (h .shape)) (planesOf h) (none-is c) k l, most-le (h .shape) k)
+      | no l ↦ omega (arith, List·getD-eq-default (h .planes) 0 {n = k} (omega (arith, long s)))
+    ] in
+    (yes-shape (f .before .before .before .before), few)
+
+returns-4 : tie.Need-returns-4
+unfolding right
+returns-4 c =
+    let e = c .before .before in
+    let f = e .before in
+    rw (yes-shape (f .before .before .before .before), le-leb _ _ (f .before .before .if2 .left), eq-eqb _ _ (none-is e), c .before .cells-of .ensures)
+
+pub is-right-spec : {M : Type 1} → statement M
+is-right-spec =
+    tie.close
+    (tie.spec
+    accepted-requires
+    returns
+    returns-2
+    limits-requires
+    first-over-requires
+    returns-3
+    cells-of-requires
+    returns-4)

@@ -1,0 +1,53 @@
+-- The array is filled place by place, each with the most planes of its layer.
+use Prim.Native.Nat.{_≤_, _-_}
+use mathlib.Core.Path.{refl}
+use native.Mathlib.Omega.{arith}
+use Rattle.header.specs.Opening.{planesMost}
+use Rattle.header.proofs.Fills.{Filled, filled-none, filled-more, filled-all}
+use Rattle.header.proofs.planes.limits.Statement.{statement}
+use Rattle.header.proofs.planes.limits.Tie as tie
+
+abbrev Inv-loop : tie.InvT-loop
+Inv-loop shape most₀ k₀ most k = (k ≤ 13) × Filled (planesMost shape) 13 k most
+
+abbrev μ-loop : tie.MeasureT-loop
+μ-loop shape most₀ k₀ most k = 13 - k
+
+loop-holds : tie.Need-loop-holds Inv-loop μ-loop
+loop-holds c = (omega arith, filled-none _ _ _ refl)
+
+planes-most-requires : tie.Need-planes-most-requires Inv-loop μ-loop
+planes-most-requires c κs = c .before .before .pre
+
+mul-most : tie.Need-mul-most Inv-loop μ-loop
+mul-most c = omega arith
+
+array-write-most : tie.Need-array-write-most Inv-loop μ-loop
+array-write-most c = omega arith
+
+add-k : tie.Need-add-k Inv-loop μ-loop
+add-k c = omega arith
+
+loop-less : tie.Need-loop-less Inv-loop μ-loop
+loop-less c = omega arith
+
+loop-again : tie.Need-loop-again Inv-loop μ-loop
+loop-again c = (omega arith, filled-more _ _ _ (c .planes-most .ensures) (c .before .loop-test .taken) (c .before .before .loop .inv .1))
+
+returns : tie.Need-returns Inv-loop μ-loop
+returns c = filled-all _ _ (c .loop-test .left) (c .before .loop .inv .1)
+
+pub limits-spec : {M : Type 1} → statement M
+limits-spec =
+    tie.close
+    (tie.spec
+    Inv-loop
+    μ-loop
+    loop-holds
+    planes-most-requires
+    mul-most
+    array-write-most
+    add-k
+    loop-less
+    loop-again
+    returns)

@@ -1,0 +1,276 @@
+-- The seven lines in turn, each put behind what stands (`put-more`). All of them fit, so each does: a header of u64 has at most 512 bytes of text.
+use mathlib.Core.List.{List, [], _∷_, _++_}
+use mathlib.Core.Path.{_≡_, refl, sym, ap, _∙_}
+use Prim.Native.Nat.{ℕ, _+_, _≤_, _<_, _^_}
+use native.Mathlib.Omega.{arith}
+use lib.ListN.{length, take, getD, set, length-set}
+use mir.Syntax.{w64}
+use mir.Val.{Fits}
+use native.Mathlib.Nat.{le-trans}
+use borrow.Author.Needs.{needs}
+use Rattle.layers.specs.Limits.{layersMost}
+use Rattle.text.specs.Decimal.{digits}
+use Rattle.text.specs.Line.{lineText}
+use Rattle.text.proofs.Lines.{line-length}
+use Rattle.header.specs.declared.Header.{Header}
+use Rattle.header.specs.Header.{asciiFrom, curveText, listText, listed, planesOf, headerText}
+use Rattle.header.proofs.TextLength.{text-length, text-fits}
+use Rattle.header.proofs.Stores.{Put, put-none, put-more, put-run, put-byte, put-all}
+use Rattle.header.proofs.printing.put_header.Statement.{statement}
+use Rattle.header.proofs.printing.put_header.Tie as tie
+
+abbrev H : tie.Start → Header
+H s = s .args .header
+
+-- ---- the places, from the first line on
+abbrev S : tie.After-put-line → tie.Start
+S c = c .before .before .before .before .before .before
+
+abbrev A : tie.After-put-line2 → tie.After-put-line
+A c = c .before .before .before .before .before
+
+abbrev B : tie.After-put-line3 → tie.After-put-line2
+B c = c .before .before .before .before .before
+
+abbrev C : tie.After-put-bytes → tie.After-put-line3
+C c = c .before .before .before .before .before
+
+abbrev D : tie.After-put-curve → tie.After-put-bytes
+D c = c .before .before .before .before
+
+abbrev E : tie.After-put-line4 → tie.After-put-curve
+E c = c .before .before .before .before .before
+
+abbrev F : tie.After-put-bytes2 → tie.After-put-line4
+F c = c .before .before .before .before .before
+
+abbrev G : tie.After-put-list → tie.After-put-bytes2
+G c = c .before .before .before .before .before
+
+-- ---- room
+listed-some : (levels : ℕ) → 0 < listed levels
+unfolding listed
+listed-some levels = omega arith
+
+listed-few : (levels : ℕ) → listed levels ≤ layersMost
+unfolding listed
+listed-few levels = omega arith
+
+number : (s : tie.Start) (k : ℕ) → planesOf (H s) k < 2 ^ 64
+number s k = let f : Fits w64 (getD (H s .planes) k 0) = search needs in f .fits
+
+room-all : (s : tie.Start) → length (headerText (H s)) ≤ length (s .args .out .now)
+room-all s = le-trans (text-fits (H s) (search needs) (search needs) (search needs) (search needs) (search needs) (λ k _. number s k)) (s .pre)
+
+-- how far the text has come, in a slice of the same length
+record Upto (s : tie.Start) (out : List ℕ) (end n : ℕ) : Type 0 where
+  ends : end ≡ n
+  long : length out ≡ length (s .args .out .now)
+
+module _ (s : tie.Start) where
+  abbrev n1 : ℕ
+  n1 = 6 + length (digits (H s .shape .rows))
+
+  abbrev n2 : ℕ
+  n2 = n1 + 6 + length (digits (H s .shape .cols))
+
+  abbrev n3 : ℕ
+  n3 = n2 + 8 + length (digits (H s .shape .levels))
+
+  abbrev n4 : ℕ
+  n4 = n3 + 7 + length (curveText (H s .curve))
+
+  abbrev n5 : ℕ
+  n5 = n4 + 6 + length (digits (H s .step))
+
+  abbrev n6 : ℕ
+  n6 = n5 + 8 + length (listText (take (listed (H s .shape .levels)) (H s .planes)))
+
+  abbrev n7 : ℕ
+  n7 = n6 + 7 + length (digits (H s .cells))
+
+  room : n7 ≤ length (s .args .out .now)
+  room = omega (arith, text-length (H s), room-all s)
+
+first : (c : tie.After-put-line) → Upto (S c) (c .put-line .last .0) (c .put-line .result) (n1 (S c))
+first c = record { ends = omega (arith, simp line-length at (c .put-line .ensures .0)); long = c .put-line .kept .0 }
+
+second : (c : tie.After-put-line2) → Upto (S (A c)) (c .put-line2 .last .0) (c .put-line2 .result) (n2 (S (A c)))
+second c = let p = first (A c) in record { ends = omega (arith, p .ends, simp line-length at (c .put-line2 .ensures .0)); long = c .put-line2 .kept .0 ∙ p .long }
+
+third : (c : tie.After-put-line3) → Upto (S (A (B c))) (c .put-line3 .last .0) (c .put-line3 .result) (n3 (S (A (B c))))
+third c = let p = second (B c) in record { ends = omega (arith, p .ends, simp line-length at (c .put-line3 .ensures .0)); long = c .put-line3 .kept .0 ∙ p .long }
+
+key : (c : tie.After-put-bytes) → Upto (S (A (B (C c)))) (c .put-bytes .last .0) (c .put-bytes .result) (n3 (S (A (B (C c)))) + 6)
+key c = let p = third (C c) in record { ends = omega (arith, p .ends, c .put-bytes .ensures .0); long = c .put-bytes .kept .0 ∙ p .long }
+
+fourth : (c : tie.After-put-curve) → Upto (S (A (B (C (D c))))) (set (c .put-curve .last .0) (c .put-curve .result) 10) (c .put-curve .result + 1) (n4 (S (A (B (C (D c))))))
+fourth c = let p = key (D c) in record { ends = omega (arith, p .ends, c .put-curve .ensures .0); long = simp length-set (c .put-curve .kept .0 ∙ p .long) }
+
+fifth : (c : tie.After-put-line4) → Upto (S (A (B (C (D (E c)))))) (c .put-line4 .last .0) (c .put-line4 .result) (n5 (S (A (B (C (D (E c)))))))
+fifth c = let p = fourth (E c) in record { ends = omega (arith, p .ends, simp line-length at (c .put-line4 .ensures .0)); long = c .put-line4 .kept .0 ∙ p .long }
+
+key-2 : (c : tie.After-put-bytes2) → Upto (S (A (B (C (D (E (F c))))))) (c .put-bytes2 .last .0) (c .put-bytes2 .result) (n5 (S (A (B (C (D (E (F c))))))) + 7)
+key-2 c = let p = fifth (F c) in record { ends = omega (arith, p .ends, c .put-bytes2 .ensures .0); long = c .put-bytes2 .kept .0 ∙ p .long }
+
+sixth : (c : tie.After-put-list) → Upto (S (A (B (C (D (E (F (G c)))))))) (set (c .put-list .last .0) (c .put-list .result) 10) (c .put-list .result + 1) (n6 (S (A (B (C (D (E (F (G c)))))))))
+sixth c = let p = key-2 (G c) in record { ends = omega (arith, p .ends, rw (c .before .listed .ensures) at (c .put-list .ensures .0)); long = simp length-set (c .put-list .kept .0 ∙ p .long) }
+
+slice-aggregate-put-line : tie.Need-slice-aggregate-put-line
+slice-aggregate-put-line c = search needs
+
+put-line-requires : tie.Need-put-line-requires
+put-line-requires c κs = let s = c .before .before .before .before .before in simp line-length (omega (arith, room s))
+
+slice-aggregate-put-line-2 : tie.Need-slice-aggregate-put-line-2
+slice-aggregate-put-line-2 c = search needs
+
+put-line-requires-2 : tie.Need-put-line-requires-2
+put-line-requires-2 c κs =
+    let l = c .before .before .before .before in
+    let p = first l in
+    simp line-length (omega (arith, p .ends, p .long, room (S l)))
+
+slice-aggregate-put-line-3 : tie.Need-slice-aggregate-put-line-3
+slice-aggregate-put-line-3 c = search needs
+
+put-line-requires-3 : tie.Need-put-line-requires-3
+put-line-requires-3 c κs =
+    let l = c .before .before .before .before in
+    let p = second l in
+    simp line-length (omega (arith, p .ends, p .long, room (S (A l))))
+
+slice-aggregate-put-bytes : tie.Need-slice-aggregate-put-bytes
+slice-aggregate-put-bytes c = search needs
+
+put-bytes-requires : tie.Need-put-bytes-requires
+put-bytes-requires c κs =
+    let l = c .before .before .before .before in
+    let p = third l in
+    omega (arith, p .ends, p .long, room (S (A (B l))))
+
+put-curve-requires : tie.Need-put-curve-requires
+put-curve-requires c κs =
+    let l = c .before .before .before in
+    let p = key l in
+    omega (arith, p .ends, p .long, room (S (A (B (C l)))))
+
+slice-write-out : tie.Need-slice-write-out
+slice-write-out c =
+    let l = c .before .before in
+    let p = key (D l) in
+    omega (arith, p .ends, p .long, l .put-curve .ensures .0, l .put-curve .kept .0, room (S (A (B (C (D l))))))
+
+add-put-line : tie.Need-add-put-line
+add-put-line c =
+    let l = c .before .before .before in
+    let p = fourth l in
+    let s = S (A (B (C (D l)))) in
+    omega (arith, p .ends, room s, s .good .0 .0)
+
+slice-aggregate-put-line-4 : tie.Need-slice-aggregate-put-line-4
+slice-aggregate-put-line-4 c = search needs
+
+put-line-requires-4 : tie.Need-put-line-requires-4
+put-line-requires-4 c κs =
+    let l = c .before .before .before .before in
+    let p = fourth l in
+    simp line-length (omega (arith, p .ends, p .long, room (S (A (B (C (D l)))))))
+
+slice-aggregate-put-bytes-2 : tie.Need-slice-aggregate-put-bytes-2
+slice-aggregate-put-bytes-2 c = search needs
+
+put-bytes-requires-2 : tie.Need-put-bytes-requires-2
+put-bytes-requires-2 c κs =
+    let l = c .before .before .before .before in
+    let p = fifth l in
+    omega (arith, p .ends, p .long, room (S (A (B (C (D (E l)))))))
+
+listed-requires : tie.Need-listed-requires
+listed-requires c κs = search needs
+
+put-list-requires : tie.Need-put-list-requires
+put-list-requires c κs =
+    let l = c .before .before .before .before in
+    let p = key-2 l in
+    let s = S (A (B (C (D (E (F l)))))) in
+    rw (c .listed .ensures) (listed-some (H s .shape .levels), listed-few (H s .shape .levels), omega (arith, p .ends, p .long, room s))
+
+slice-write-out-2 : tie.Need-slice-write-out-2
+slice-write-out-2 c =
+    let l = c .before .before in
+    let p = key-2 (G l) in
+    omega (arith, p .ends, p .long, rw (l .before .listed .ensures) at (l .put-list .ensures .0), l .put-list .kept .0, room (S (A (B (C (D (E (F (G l)))))))))
+
+add-put-line-2 : tie.Need-add-put-line-2
+add-put-line-2 c =
+    let l = c .before .before .before in
+    let p = sixth l in
+    let s = S (A (B (C (D (E (F (G l))))))) in
+    omega (arith, p .ends, room s, s .good .0 .0)
+
+slice-aggregate-put-line-5 : tie.Need-slice-aggregate-put-line-5
+slice-aggregate-put-line-5 c = search needs
+
+put-line-requires-5 : tie.Need-put-line-requires-5
+put-line-requires-5 c κs =
+    let l = c .before .before .before .before in
+    let p = sixth l in
+    simp line-length (omega (arith, p .ends, p .long, room (S (A (B (C (D (E (F (G l))))))))))
+
+same-length : tie.Need-same-length
+same-length c = let l = c .before .before in l .put-line5 .kept .0 ∙ sixth (l .before .before .before .before .before) .long
+
+returns : tie.Need-returns
+unfolding headerText asciiFrom
+returns c =
+    let l7 = c .before .before in
+    let l6 = l7 .before .before .before .before .before in
+    let k6 = G l6 in
+    let l5 = F k6 in
+    let l4 = E l5 in
+    let k4 = D l4 in
+    let l3 = C k4 in
+    let l2 = B l3 in
+    let l1 = A l2 in
+    let s = S l1 in
+    let h = H s in
+    let p1 = put-more (lineText _ (h .shape .rows)) _ _ (put-none (s .args .out .now) 0) (l1 .put-line .ensures .0) (l1 .put-line .ensures .1) in
+    let p2 = put-more (lineText _ (h .shape .cols)) _ _ p1 (l2 .put-line2 .ensures .0) (l2 .put-line2 .ensures .1) in
+    let p3 = put-more (lineText _ (h .shape .levels)) _ _ p2 (l3 .put-line3 .ensures .0) (l3 .put-line3 .ensures .1) in
+    let q4 = put-more (_ ∷ _ ∷ _ ∷ _ ∷ _ ∷ _ ∷ []) _ _ (put-none (l3 .put-line3 .last .0) (l3 .put-line3 .result)) (k4 .put-bytes .ensures .0) (k4 .put-bytes .ensures .1) in
+    let p4 = put-run p3 (put-byte _ (put-more (curveText (h .curve)) _ _ q4 (l4 .put-curve .ensures .0) (l4 .put-curve .ensures .1))) in
+    let p5 = put-more (lineText _ (h .step)) _ _ p4 (l5 .put-line4 .ensures .0) (l5 .put-line4 .ensures .1) in
+    let q6 = put-more (_ ∷ _ ∷ _ ∷ _ ∷ _ ∷ _ ∷ _ ∷ []) _ _ (put-none (l5 .put-line4 .last .0) (l5 .put-line4 .result)) (k6 .put-bytes2 .ensures .0) (k6 .put-bytes2 .ensures .1) in
+    let list = listText (take (listed (h .shape .levels)) (h .planes)) in
+    let p6 = put-run p5 (put-byte _ (put-more list _ _ q6 (rw (l6 .before .listed .ensures) at (l6 .put-list .ensures .0)) (rw (l6 .before .listed .ensures) at (l6 .put-list .ensures .1)))) in
+    let p7 = put-more (lineText _ (h .cells)) _ _ p6 (l7 .put-line5 .ensures .0) (l7 .put-line5 .ensures .1) in
+    put-all (headerText h) p7 refl
+
+pub put-header-spec : {M : Type 1} → statement M
+put-header-spec =
+    tie.close
+    (tie.spec
+    slice-aggregate-put-line
+    put-line-requires
+    slice-aggregate-put-line-2
+    put-line-requires-2
+    slice-aggregate-put-line-3
+    put-line-requires-3
+    slice-aggregate-put-bytes
+    put-bytes-requires
+    put-curve-requires
+    slice-write-out
+    add-put-line
+    slice-aggregate-put-line-4
+    put-line-requires-4
+    slice-aggregate-put-bytes-2
+    put-bytes-requires-2
+    listed-requires
+    put-list-requires
+    slice-write-out-2
+    add-put-line-2
+    slice-aggregate-put-line-5
+    put-line-requires-5
+    same-length
+    returns)

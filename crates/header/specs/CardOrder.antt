@@ -1,0 +1,47 @@
+-- Card order (document 01, "The card"): "Then the planes: p from 22 down to 0, and for each p every layer with P_k > p, layer 0 first."
+use mathlib.Core.Bool.{Bool, cond}
+use mathlib.Core.List.{List}
+use Prim.Native.Nat.{ℕ, _+_, _*_, _-_}
+use lib.Dec.{ltb, leb}
+use lib.ListN.{getD, replicate}
+use Rattle.layers.specs.Limits.{layersMost}
+use Rattle.layers.specs.Lists.{total, count, tabulate}
+use Rattle.layers.specs.Sheet.{layers}
+use Rattle.header.specs.declared.Header.{Header}
+use Rattle.header.specs.declared.Plan.{Plan}
+use Rattle.header.specs.Header.{cellBytes, planesOf, planeCells}
+use Rattle.header.specs.Opening.{right}
+
+-- the planes of layer j that stand before layer k's plane at place p: those at places above p, and that at p where j comes before k
+abbrev pub planesBefore : Header → ℕ → ℕ → ℕ → ℕ
+planesBefore h k p j = planesOf h j - (p + cond (ltb j k) 0 1)
+
+-- the cells that stand before it
+unfoldable pub cellsBefore : Header → ℕ → ℕ → ℕ
+cellsBefore h k p = total (λ j. planeCells (h .shape) j * planesBefore h k p j) (layers (h .shape))
+
+-- "A plane is whole when all its cells are in the bytes given", n of them behind the header
+unfoldable pub isWhole : Header → ℕ → ℕ → ℕ → Bool
+isWhole h n k p = leb (cellBytes * (cellsBefore h k p + planeCells (h .shape) k)) n
+
+-- the whole planes of each layer
+unfoldable pub whole : Header → ℕ → ℕ → ℕ
+whole h n k = cond (ltb k (layers (h .shape))) (count (isWhole h n k) (planesOf h k)) 0
+
+-- as a plan: "all its whole planes"
+abbrev pub wholePlan : Header → ℕ → Plan
+wholePlan h n = record { planes = tabulate layersMost (whole h n) }
+
+-- behind a header that opening gives; behind any other none
+unfoldable pub wholeIn : Header → ℕ → Plan
+wholeIn h n = cond (right h) (wholePlan h n) (record { planes = replicate layersMost 0 })
+
+-- ---- what the loops work with: the cells of one plane of each layer, in a list
+-- the most cells that one plane has
+abbrev pub widthMost : ℕ
+widthMost = 32
+
+-- the cells up to the end of layer k's plane at place p
+unfoldable pub cellsThrough : List ℕ → List ℕ → ℕ → ℕ → ℕ
+cellsThrough widths planes k p =
+    getD widths k 0 + total (λ j. getD widths j 0 * (getD planes j 0 - (p + cond (ltb j k) 0 1))) layersMost

@@ -1,0 +1,58 @@
+-- The figure (document 01): how far off any value may be.
+use mathlib.Core.Bool.{Bool, true, false, cond, _&&_}
+use mathlib.Core.List.{List}
+use Prim.Native.Nat.{ℕ, _+_, _*_, _-_}
+use lib.Dec.{ltb, eqb}
+use Rattle.digits.specs.Digits as D
+use Rattle.layers.specs.Carry as C
+use Rattle.layers.specs.Limits.{layersMost}
+use Rattle.layers.specs.Prediction.{width}
+use Rattle.layers.specs.Sheet.{layers}
+use Rattle.header.specs.declared.Header.{Header}
+use Rattle.header.specs.declared.Plan.{Plan}
+use Rattle.header.specs.declared.Details.{Details}
+use Rattle.header.specs.declared.Bounded.{Bounded}
+use Rattle.header.specs.Refusals.{refusal, detailsOf}
+use Rattle.header.specs.Header.{planesOf}
+use Rattle.header.specs.Plan.{loads, firstOver}
+use Rattle.header.specs.Opening.{opening, right}
+
+-- "Dropping d digits loses at most loss(d)": what layer k loses where d of its planes are missing
+abbrev pub loss : Header → ℕ → ℕ → ℕ
+loss h k d = D.loss d
+
+-- what layer k adds of its own under a plan: "loss × w", d being "P_k less those the plan loads of it"
+abbrev pub ownLoss : Header → (ℕ → ℕ) → ℕ → ℕ
+ownLoss h plan k = loss h k (planesOf h k - plan k) * width (h .step)
+
+-- "Start with loss × w of layer 0. Each later non-empty layer first carries what stands, then adds its own. The figure is e plus the result."
+unfoldable pub figureOf : Header → (ℕ → ℕ) → ℕ
+figureOf h plan = h .step + C.standing (h .shape) (h .curve) (ownLoss h plan) (layers (h .shape))
+
+-- the figure of a header and a plan of it; 0 where the header is none that opening gives or the plan is none of it
+unfoldable pub boundOf : Header → Plan → ℕ
+boundOf h plan =
+    cond (right h && eqb (firstOver (planesOf h) (loads plan)) layersMost) (figureOf h (loads plan)) 0
+
+-- ---- the call: the figure of a plan of a card
+pub record Bounding : Type 0 where
+  pub refused : Details
+  pub figure : ℕ
+
+abbrev pub toldBound : Bounded → Bounding
+toldBound b = record { refused = detailsOf (b .refusal); figure = b .figure }
+
+abbrev pub noBound : Details → Bounding
+noBound d = record { refused = d; figure = 0 }
+
+-- "9, a count above the header's or a place past the last not 0 (detail: first such place)": past the last the header's counts are 0
+abbrev pub boundedBy : Header → (ℕ → ℕ) → ℕ → Bounding
+boundedBy h plan place =
+    cond (ltb place layersMost) (noBound (refusal 9 place 0)) (record { refused = refusal 0 0 0; figure = figureOf h plan })
+
+unfoldable pub bounding : List ℕ → Plan → Bounding
+bounding bs plan =
+    let o = opening bs in
+    cond (eqb (o .refused .number) 0)
+    (boundedBy (o .header) (loads plan) (firstOver (planesOf (o .header)) (loads plan)))
+    (noBound (o .refused))

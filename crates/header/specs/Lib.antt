@@ -1,0 +1,6 @@
+pub mod Refusals
+pub mod Header
+pub mod Plan
+pub mod Opening
+pub mod CardOrder
+pub mod Figure

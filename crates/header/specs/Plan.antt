@@ -1,0 +1,22 @@
+-- Plans (document 01): "A plan is 13 numbers: planes loaded from the top for each layer, 0 past the last."
+use mathlib.Core.Bool.{Bool, cond, _&&_}
+use mathlib.Core.List.{List}
+use Prim.Native.Nat.{ℕ, _+_, _^_}
+use lib.Dec.{ltb}
+use lib.ListN.{getD, set}
+use Rattle.digits.specs.Digits.{firstFrom}
+use Rattle.layers.specs.Limits.{layersMost}
+use Rattle.header.specs.declared.Plan.{Plan}
+
+-- the planes that a plan loads of layer k
+abbrev pub loads : Plan → ℕ → ℕ
+loads plan k = getD (plan .planes) k 0
+
+-- the plan with one plane more of layer k. A place that a plan has not, and a number that is the largest already, stay
+unfoldable pub withPlane : Plan → ℕ → Plan
+withPlane plan k =
+    cond (ltb k layersMost && ltb (loads plan k + 1) (2 ^ 64)) (record { planes = set (plan .planes) k (loads plan k + 1) }) plan
+
+-- the first place where a plan loads more than the limit there, or `layersMost` where there is none
+unfoldable pub firstOver : (ℕ → ℕ) → (ℕ → ℕ) → ℕ
+firstOver limit plan = firstFrom (λ k. ltb (limit k) (plan k)) layersMost 0

@@ -1,0 +1,165 @@
+// A card's header: its text, opening any bytes, the planes that are whole in them, and the figure of a plan.
+ghost use mathlib.Core.Path.{_≡_};
+ghost use Rattle.header.specs.Refusals as R;
+ghost use Rattle.header.specs.Plan as P;
+
+mod bound;
+mod opening;
+mod planes;
+mod printing;
+
+pub use bound::error_bound;
+pub use bound::figure;
+use layers::Curve;
+use layers::Shape;
+pub use opening::open;
+pub use planes::is_right;
+pub use planes::plane_cells;
+pub use planes::whole_planes;
+pub use printing::header_text;
+
+// Document 01's refusals; `details_of` gives their numbers.
+pub enum Refusal {
+    Accepted,
+    BadSize,
+    BadSettings,
+    BadLengths,
+    BadSample { row: u64, col: u64 },
+    HeaderCut,
+    BadLine(u64),
+    TrailingBytes,
+    BadPlane(u64),
+    BadPlan(u64),
+    LimitBelowStep,
+    BadCoefficient,
+}
+
+// A refusal as document 01 writes it: a number with two details.
+pub struct Details {
+    pub number: u64,
+    pub first: u64,
+    pub second: u64,
+}
+
+// Planes loaded from the top, for each layer; 0 past the last.
+pub struct Plan {
+    pub planes: [u64; 13],
+}
+
+pub struct Header {
+    pub shape: Shape,
+    pub curve: Curve,
+    pub step: u64,
+    pub planes: [u64; 13],
+    pub cells: u64,
+}
+
+// A card's header and how many bytes it has; blank beside a refusal.
+pub struct Opened {
+    pub refusal: Refusal,
+    pub header: Header,
+    pub length: usize,
+}
+
+// A figure; 0 beside a refusal.
+pub struct Bounded {
+    pub refusal: Refusal,
+    pub figure: u64,
+}
+
+// The text of a header: the first `length` of the bytes.
+pub struct HeaderText {
+    pub bytes: [u8; 512],
+    pub length: usize,
+}
+
+// The counts of a line of planes, if it is right.
+pub struct Counts {
+    pub right: bool,
+    pub planes: [u64; 13],
+}
+
+pub fn details_of(refusal: Refusal) -> Details
+    ensures { λ r. ⌜ r ≡ R.detailsOf refusal ⌝ }
+{
+    match refusal {
+        Refusal::Accepted => Details {
+            number: 0,
+            first: 0,
+            second: 0,
+        },
+        Refusal::BadSize => Details {
+            number: 1,
+            first: 0,
+            second: 0,
+        },
+        Refusal::BadSettings => Details {
+            number: 2,
+            first: 0,
+            second: 0,
+        },
+        Refusal::BadLengths => Details {
+            number: 3,
+            first: 0,
+            second: 0,
+        },
+        Refusal::BadSample { row, col } => Details {
+            number: 4,
+            first: row,
+            second: col,
+        },
+        Refusal::HeaderCut => Details {
+            number: 5,
+            first: 0,
+            second: 0,
+        },
+        Refusal::BadLine(line) => Details {
+            number: 6,
+            first: line,
+            second: 0,
+        },
+        Refusal::TrailingBytes => Details {
+            number: 7,
+            first: 0,
+            second: 0,
+        },
+        Refusal::BadPlane(layer) => Details {
+            number: 8,
+            first: layer,
+            second: 0,
+        },
+        Refusal::BadPlan(place) => Details {
+            number: 9,
+            first: place,
+            second: 0,
+        },
+        Refusal::LimitBelowStep => Details {
+            number: 10,
+            first: 0,
+            second: 0,
+        },
+        Refusal::BadCoefficient => Details {
+            number: 11,
+            first: 0,
+            second: 0,
+        },
+    }
+}
+
+impl Plan {
+    // The plan with one plane more of a layer; unchanged where the layer or the number is past the last.
+    pub fn with_plane(self, layer: usize) -> Plan
+        ensures { λ r. ⌜ r ≡ P.withPlane self layer ⌝ }
+    {
+        if 13 <= layer {
+            return self;
+        }
+        let mut next = self;
+        let n = next.planes[layer];
+        if 18446744073709551615 <= n {
+            return self;
+        }
+        next.planes[layer] = n + 1;
+        next
+    }
+}

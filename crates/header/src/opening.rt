@@ -1,0 +1,245 @@
+// Opening any bytes: the lines in turn, each handing on to the next.
+ghost use mathlib.Core.Path.{_≡_};
+ghost use mathlib.Core.Bool.{true};
+ghost use Prim.Native.Nat.{_*_, _^_, _≤_};
+ghost use lib.ListN.{drop};
+ghost use Rattle.layers.specs.Limits.{pointsMost};
+ghost use Rattle.layers.specs.Sheet as S;
+ghost use Rattle.header.specs.Refusals as R;
+ghost use Rattle.header.specs.Opening as O;
+use crate::Counts;
+use crate::Header;
+use crate::Opened;
+use crate::Refusal;
+use crate::planes::cells_of;
+use crate::planes::planes_most;
+use layers::Curve;
+use layers::Shape;
+use text::Line;
+use text::Number;
+
+fn refused(refusal: Refusal) -> Opened
+    ensures { λ r. ⌜ O.told r ≡ O.no (R.detailsOf refusal) ⌝ }
+{
+    Opened {
+        refusal,
+        header: Header {
+            shape: Shape {
+                rows: 0,
+                cols: 0,
+                levels: 0,
+            },
+            curve: Curve::Linear,
+            step: 0,
+            planes: [0; 13],
+            cells: 0,
+        },
+        length: 0,
+    }
+}
+
+// Line 7, and what follows it.
+fn open_cells(bytes: &[u8], header: Header, at: usize) -> Opened
+    requires { ⌜ header .cells ≤ 2 ^ 32 ⌝ }
+    ensures { λ r. ⌜ O.told r ≡ O.openingCells (now (bytes .entry)) header at ⌝ }
+{
+    let cells = header.cells;
+    match text::read_line(bytes, at, b"cells=", cells, cells) {
+        Line::Short => refused(Refusal::HeaderCut),
+        Line::Wrong => refused(Refusal::BadLine(7)),
+        Line::Number { value: _, length } => {
+            let end = at + length;
+            if 32 * (cells as usize) < bytes.len() - end {
+                return refused(Refusal::TrailingBytes);
+            }
+            Opened {
+                refusal: Refusal::Accepted,
+                header,
+                length: end,
+            }
+        }
+    }
+}
+
+fn wrong_counts() -> Counts
+    ensures { λ r. ⌜ r ≡ O.wrongCounts ⌝ }
+{
+    Counts {
+        right: false,
+        planes: [0; 13],
+    }
+}
+
+// The counts that a text spells, one for each layer, commas between.
+fn read_counts(text: &[u8], shape: Shape) -> Counts
+    requires { ⌜ S.accepted shape ≡ true ⌝ }
+    ensures { λ r. ⌜ r ≡ O.countsOf (O.countsIn shape (S.layers shape) 0 (now (text .entry))) ⌝ }
+{
+    let last = 2 * shape.levels;
+    let mut planes = [0u64; 13];
+    let mut at: usize = 0;
+    for k in 0..last {
+        let end = text::find(text, at, 44);
+        if text.len() <= end {
+            return wrong_counts();
+        }
+        let Number::Value(n) = text::parse(&text[at..end], 0, planes_most(shape, k)) else {
+            return wrong_counts();
+        };
+        planes[k] = n;
+        at = end + 1;
+    }
+    let Number::Value(n) = text::parse(&text[at..], 0, planes_most(shape, last)) else {
+        return wrong_counts();
+    };
+    planes[last] = n;
+    Counts {
+        right: true,
+        planes,
+    }
+}
+
+// Line 6.
+fn open_planes(bytes: &[u8], shape: Shape, curve: Curve, step: u64, at: usize) -> Opened
+    requires { ⌜ S.accepted shape ≡ true ⌝ }
+    ensures { λ r. ⌜ O.told r ≡ O.openingPlanes (now (bytes .entry)) shape curve step at ⌝ }
+{
+    let end = text::find(bytes, at, 10);
+    if bytes.len() <= end {
+        return refused(Refusal::HeaderCut);
+    }
+    let line = &bytes[at..end];
+    if !text::starts_with(line, b"planes=") {
+        return refused(Refusal::BadLine(6));
+    }
+    let counts = read_counts(&line[7..], shape);
+    if !counts.right {
+        return refused(Refusal::BadLine(6));
+    }
+    let planes = counts.planes;
+    let cells = cells_of(shape, planes);
+    open_cells(
+        bytes,
+        Header {
+            shape,
+            curve,
+            step,
+            planes,
+            cells,
+        },
+        end + 1,
+    )
+}
+
+// Line 5.
+fn open_step(bytes: &[u8], shape: Shape, curve: Curve, at: usize) -> Opened
+    requires { ⌜ S.accepted shape ≡ true ⌝ }
+    ensures { λ r. ⌜ O.told r ≡ O.openingStep (now (bytes .entry)) shape curve at ⌝ }
+{
+    match text::read_line(bytes, at, b"step=", 0, 65535) {
+        Line::Short => refused(Refusal::HeaderCut),
+        Line::Wrong => refused(Refusal::BadLine(5)),
+        Line::Number { value, length } => open_planes(bytes, shape, curve, value, at + length),
+    }
+}
+
+// Is a text just this key?
+fn is_text(line: &[u8], key: &[u8]) -> bool
+    ensures { λ r. ⌜ r ≡ O.same (now (key .entry)) (now (line .entry)) ⌝ }
+{
+    if text::starts_with(line, key) {
+        return key.len() == line.len();
+    }
+    false
+}
+
+// The line of the curve: 0 is linear and 1 is cubic.
+fn curve_line(bytes: &[u8], at: usize) -> Line
+    ensures { λ r. ⌜ r ≡ O.curveLine (drop at (now (bytes .entry))) ⌝ }
+{
+    let end = text::find(bytes, at, 10);
+    if bytes.len() <= end {
+        return Line::Short;
+    }
+    let line = &bytes[at..end];
+    if is_text(line, b"curve=linear") {
+        return Line::Number {
+            value: 0,
+            length: end - at + 1,
+        };
+    }
+    if is_text(line, b"curve=cubic") {
+        return Line::Number {
+            value: 1,
+            length: end - at + 1,
+        };
+    }
+    Line::Wrong
+}
+
+fn curve_of(value: u64) -> Curve
+    ensures { λ r. ⌜ r ≡ O.curveOf value ⌝ }
+{
+    if value == 0 {
+        Curve::Linear
+    } else {
+        Curve::Cubic
+    }
+}
+
+// Line 4.
+fn open_curve(bytes: &[u8], shape: Shape, at: usize) -> Opened
+    requires { ⌜ S.accepted shape ≡ true ⌝ }
+    ensures { λ r. ⌜ O.told r ≡ O.openingCurve (now (bytes .entry)) shape at ⌝ }
+{
+    match curve_line(bytes, at) {
+        Line::Short => refused(Refusal::HeaderCut),
+        Line::Wrong => refused(Refusal::BadLine(4)),
+        Line::Number { value, length } => {
+            let curve = curve_of(value);
+            open_step(bytes, shape, curve, at + length)
+        }
+    }
+}
+
+// Line 3.
+fn open_levels(bytes: &[u8], rows: u64, cols: u64, at: usize) -> Opened
+    requires { ⌜ (1 ≤ rows) × (1 ≤ cols) × (rows * cols ≤ pointsMost) ⌝ }
+    ensures { λ r. ⌜ O.told r ≡ O.openingLevels (now (bytes .entry)) rows cols at ⌝ }
+{
+    match text::read_line(bytes, at, b"levels=", 0, 6) {
+        Line::Short => refused(Refusal::HeaderCut),
+        Line::Wrong => refused(Refusal::BadLine(3)),
+        Line::Number { value, length } => {
+            let shape = Shape {
+                rows: rows as usize,
+                cols: cols as usize,
+                levels: value as usize,
+            };
+            open_curve(bytes, shape, at + length)
+        }
+    }
+}
+
+// Line 2: the points are at most 8,192.
+fn open_cols(bytes: &[u8], rows: u64, at: usize) -> Opened
+    requires { ⌜ (1 ≤ rows) × (rows ≤ pointsMost) ⌝ }
+    ensures { λ r. ⌜ O.told r ≡ O.openingCols (now (bytes .entry)) rows at ⌝ }
+{
+    match text::read_line(bytes, at, b"cols=", 1, 8192 / rows) {
+        Line::Short => refused(Refusal::HeaderCut),
+        Line::Wrong => refused(Refusal::BadLine(2)),
+        Line::Number { value, length } => open_levels(bytes, rows, value, at + length),
+    }
+}
+
+// Opens any bytes: the header, or the first thing that is wrong.
+pub fn open(bytes: &[u8]) -> Opened
+    ensures { λ r. ⌜ O.told r ≡ O.opening (now (bytes .entry)) ⌝ }
+{
+    match text::read_line(bytes, 0, b"rows=", 1, 8192) {
+        Line::Short => refused(Refusal::HeaderCut),
+        Line::Wrong => refused(Refusal::BadLine(1)),
+        Line::Number { value, length } => open_cols(bytes, value, length),
+    }
+}

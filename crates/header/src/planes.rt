@@ -1,0 +1,149 @@
+// The planes that a header names: their cells, their limits, and those that are whole in the bytes behind it.
+ghost use mathlib.Core.Path.{_≡_};
+ghost use mathlib.Core.Bool.{true};
+ghost use Prim.Native.Nat.{ℕ, _*_, _<_, _≤_};
+ghost use lib.Dec.{leb};
+ghost use lib.ListN.{getD};
+ghost use Rattle.layers.specs.Lists.{tabulate, count};
+ghost use Rattle.layers.specs.Limits.{layersMost};
+ghost use Rattle.layers.specs.Sheet as S;
+ghost use Rattle.header.specs.Header as Hd;
+ghost use Rattle.header.specs.Plan as P;
+ghost use Rattle.header.specs.Opening as O;
+ghost use Rattle.header.specs.CardOrder as K;
+use crate::Header;
+use crate::Plan;
+use layers::Shape;
+
+// The cells of one plane of a layer; 0 where there is no such layer.
+pub fn plane_cells(shape: Shape, layer: usize) -> u64
+    ensures { λ r. ⌜ r ≡ Hd.cellsAt shape layer ⌝ }
+{
+    (layers::layer_size(shape, layer) as u64 + 255) / 256
+}
+
+// The cells of all the planes that the counts name.
+pub(crate) fn cells_of(shape: Shape, planes: [u64; 13]) -> u64
+    requires { ⌜ S.accepted shape ≡ true ⌝ }
+    requires { ⌜ ((k : ℕ) → getD planes k 0 ≤ Hd.placesMost) ⌝ }
+    ensures { λ r. ⌜ r ≡ Hd.cellsOf shape planes ⌝ }
+{
+    let layers = 2 * shape.levels + 1;
+    let mut cells: u64 = 0;
+    for k in 0..layers {
+        cells += plane_cells(shape, k) * planes[k];
+    }
+    cells
+}
+
+// The most planes that a layer may have: none where it is empty.
+pub(crate) fn planes_most(shape: Shape, layer: usize) -> u64
+    requires { ⌜ S.accepted shape ≡ true ⌝ }
+    ensures { λ r. ⌜ r ≡ O.planesMost shape layer ⌝ }
+{
+    if layers::layer_size(shape, layer) == 0 {
+        return 0;
+    }
+    23
+}
+
+// The most planes that each layer may have.
+fn limits(shape: Shape) -> [u64; 13]
+    requires { ⌜ S.accepted shape ≡ true ⌝ }
+    ensures { λ r. ⌜ r ≡ tabulate layersMost (O.planesMost shape) ⌝ }
+{
+    let mut most = [0u64; 13];
+    for k in 0..13usize {
+        most[k] = planes_most(shape, k);
+    }
+    most
+}
+
+// The first place where a plan loads more than the limit there, or 13.
+pub(crate) fn first_over(limit: [u64; 13], plan: [u64; 13]) -> usize
+    ensures { λ r. ⌜ r ≡ P.firstOver (λ k. getD limit k 0) (λ k. getD plan k 0) ⌝ }
+{
+    for k in 0..13usize {
+        if limit[k] < plan[k] {
+            return k;
+        }
+    }
+    13
+}
+
+// Is this a header that opening can give?
+pub fn is_right(header: Header) -> bool
+    ensures { λ r. ⌜ r ≡ O.right header ⌝ }
+{
+    let shape = header.shape;
+    let planes = header.planes;
+    if !layers::accepted(shape) {
+        return false;
+    }
+    if 65535 < header.step {
+        return false;
+    }
+    if first_over(limits(shape), planes) < 13 {
+        return false;
+    }
+    header.cells == cells_of(shape, planes)
+}
+
+// The cells of one plane of each layer.
+fn widths_of(shape: Shape) -> [u64; 13]
+    ensures { λ r. ⌜ r ≡ tabulate layersMost (Hd.cellsAt shape) ⌝ }
+{
+    let mut widths = [0u64; 13];
+    for k in 0..13usize {
+        widths[k] = plane_cells(shape, k);
+    }
+    widths
+}
+
+// The cells up to the end of layer k's plane at place p, in card order.
+fn cells_through(widths: [u64; 13], planes: [u64; 13], k: usize, p: u64) -> u64
+    requires { ⌜ (k < layersMost) × ((j : ℕ) → (getD widths j 0 ≤ K.widthMost) × (getD planes j 0 ≤ Hd.placesMost)) × (p < Hd.placesMost) ⌝ }
+    ensures { λ r. ⌜ r ≡ K.cellsThrough widths planes k p ⌝ }
+{
+    let mut cells = widths[k];
+    for j in 0..13usize {
+        let from = if j < k { p } else { p + 1 };
+        if from < planes[j] {
+            cells += widths[j] * (planes[j] - from);
+        }
+    }
+    cells
+}
+
+// How many planes of layer k are whole in n bytes behind the header: from the top down, until one is not.
+fn whole_of(widths: [u64; 13], planes: [u64; 13], k: usize, n: usize) -> u64
+    requires { ⌜ (k < layersMost) × ((j : ℕ) → (getD widths j 0 ≤ K.widthMost) × (getD planes j 0 ≤ Hd.placesMost)) ⌝ }
+    ensures { λ r. ⌜ r ≡ count (λ p. leb (Hd.cellBytes * K.cellsThrough widths planes k p) n) (getD planes k 0) ⌝ }
+{
+    let mut left = planes[k];
+    let mut found: u64 = 0;
+    while 0 < left {
+        if n < 32 * cells_through(widths, planes, k, left - 1) as usize {
+            return found;
+        }
+        left -= 1;
+        found += 1;
+    }
+    found
+}
+
+// The planes that are whole in n bytes behind a header that opening can give; none behind any other.
+pub fn whole_planes(header: Header, n: usize) -> Plan
+    ensures { λ r. ⌜ r ≡ K.wholeIn header n ⌝ }
+{
+    let mut planes = [0u64; 13];
+    if !is_right(header) {
+        return Plan { planes };
+    }
+    let widths = widths_of(header.shape);
+    let counts = header.planes;
+    for k in 0..13usize {
+        planes[k] = whole_of(widths, counts, k, n);
+    }
+    Plan { planes }
+}
