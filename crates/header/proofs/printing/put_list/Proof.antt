@@ -50,7 +50,11 @@ more c =
     let ns = s .args .t3 in
     let i = l .loop .i in
     omega (
-      arith, s .pre, F l .put-number .kept .0, l .loop .inv .2, l .loop .inv .3,
+      arith,
+      s .pre,
+      F l .put-number .kept .0,
+      l .loop .inv .2,
+      l .loop .inv .3,
       list-longer ns i (l .loop .inv .0) (omega (arith, long s, s .pre .1, c .loop-test .taken)),
       list-rises ns (i + 1) (s .args .count) (omega (arith, c .loop-test .taken)),
     )
