@@ -1,5 +1,5 @@
 -- Card order (document 01, "The card"): "Then the planes: p from 22 down to 0, and for each p every layer with P_k > p, layer 0 first."
-use mathlib.Core.Bool.{Bool, cond}
+use mathlib.Core.Bool.{Bool, cond, _&&_}
 use mathlib.Core.List.{List}
 use Prim.Native.Nat.{ℕ, _+_, _*_, _-_}
 use lib.Dec.{ltb, leb}
@@ -19,6 +19,10 @@ planesBefore h k p j = planesOf h j - (p + cond (ltb j k) 0 1)
 -- the cells that stand before it
 unfoldable pub cellsBefore : Header → ℕ → ℕ → ℕ
 cellsBefore h k p = total (λ j. planeCells (h .shape) j * planesBefore h k p j) (layers (h .shape))
+
+-- the same of a plane that a header names; 0 of any other, and of a header that opening does not give
+unfoldable pub cellsBeforeIn : Header → ℕ → ℕ → ℕ
+cellsBeforeIn h k p = cond (right h && (ltb k layersMost && ltb p (planesOf h k))) (cellsBefore h k p) 0
 
 -- "A plane is whole when all its cells are in the bytes given", n of them behind the header
 unfoldable pub isWhole : Header → ℕ → ℕ → ℕ → Bool

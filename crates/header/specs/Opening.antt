@@ -4,7 +4,7 @@ use mathlib.Core.List.{List, [], _∷_, _++_}
 use mathlib.Core.Option.{Option, none, some}
 use Prim.Native.Nat.{ℕ, zero, suc, _+_, _*_, _-_, _/_}
 use lib.Dec.{ltb, leb, eqb}
-use lib.ListN.{length, take, drop, replicate}
+use lib.ListN.{length, getD, take, drop, replicate}
 use Rattle.layers.specs.declared.Shape.{Shape}
 use Rattle.layers.specs.declared.Curve.{Curve}
 use Rattle.layers.specs.declared.Curve.the-variants.{Linear, Cubic}
@@ -148,3 +148,8 @@ unfoldable pub right : Header → Bool
 right h =
     (accepted (h .shape) && leb (h .step) stepMost)
     && (eqb (firstOver (planesMost (h .shape)) (planesOf h)) layersMost && eqb (h .cells) (cellsOf (h .shape) (h .planes)))
+
+-- the cells that counts name; 0 where no header has such a shape or such counts
+unfoldable pub cellsNamed : Shape → List ℕ → ℕ
+cellsNamed sh planes =
+    cond (accepted sh && eqb (firstOver (planesMost sh) (λ k. getD planes k 0)) layersMost) (cellsOf sh planes) 0

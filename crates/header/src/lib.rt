@@ -13,8 +13,11 @@ pub use bound::figure;
 use layers::Curve;
 use layers::Shape;
 pub use opening::open;
+pub use planes::cells_before;
+pub use planes::first_over;
 pub use planes::is_right;
 pub use planes::plane_cells;
+pub use planes::total_cells;
 pub use planes::whole_planes;
 pub use printing::header_text;
 

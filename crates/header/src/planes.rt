@@ -60,7 +60,7 @@ fn limits(shape: Shape) -> [u64; 13]
 }
 
 // The first place where a plan loads more than the limit there, or 13.
-pub(crate) fn first_over(limit: [u64; 13], plan: [u64; 13]) -> usize
+pub fn first_over(limit: [u64; 13], plan: [u64; 13]) -> usize
     ensures { λ r. ⌜ r ≡ P.firstOver (λ k. getD limit k 0) (λ k. getD plan k 0) ⌝ }
 {
     for k in 0..13usize {
@@ -69,6 +69,19 @@ pub(crate) fn first_over(limit: [u64; 13], plan: [u64; 13]) -> usize
         }
     }
     13
+}
+
+// The cells of all the planes that the counts name; 0 where no header has such a shape or such counts.
+pub fn total_cells(shape: Shape, planes: [u64; 13]) -> u64
+    ensures { λ r. ⌜ r ≡ O.cellsNamed shape planes ⌝ }
+{
+    if !layers::accepted(shape) {
+        return 0;
+    }
+    if first_over(limits(shape), planes) < 13 {
+        return 0;
+    }
+    cells_of(shape, planes)
 }
 
 // Is this a header that opening can give?
@@ -113,6 +126,24 @@ fn cells_through(widths: [u64; 13], planes: [u64; 13], k: usize, p: u64) -> u64
         }
     }
     cells
+}
+
+// The cells before a layer's plane at place p, in card order; 0 where opening gives no such header or it names no such plane.
+pub fn cells_before(header: Header, layer: usize, p: u64) -> u64
+    ensures { λ r. ⌜ r ≡ K.cellsBeforeIn header layer p ⌝ }
+{
+    if !is_right(header) {
+        return 0;
+    }
+    let counts = header.planes;
+    if 13 <= layer {
+        return 0;
+    }
+    if counts[layer] <= p {
+        return 0;
+    }
+    let widths = widths_of(header.shape);
+    cells_through(widths, counts, layer, p) - widths[layer]
 }
 
 // How many planes of layer k are whole in n bytes behind the header: from the top down, until one is not.

@@ -1,0 +1,103 @@
+-- The tests in turn, each the test of `cellsNamed` at its place; a count within its limit is at most 23, as the sum of the cells asks.
+use Prim.Native.Nat.{ℕ, _<_, _≤_}
+use mathlib.Core.Bool.{true, false}
+use mathlib.Core.Path.{_≡_, sym, ap, _∙_}
+use native.Mathlib.Decide.{decLt}
+use native.Mathlib.Omega.{arith}
+use lib.ListN.{length, getD, List·getD-eq-default}
+use borrow.Author.Needs.{needs}
+use borrow.Author.Tests.{not-true, not-false, eq-eqb, ne-eqb}
+use Rattle.layers.specs.Limits.{layersMost}
+use Rattle.layers.specs.Sheet.{accepted}
+use Rattle.layers.proofs.Lists.{getD-tabulate}
+use Rattle.header.specs.Header.{placesMost}
+use Rattle.header.specs.Plan.{firstOver}
+use Rattle.header.specs.Opening.{planesMost, cellsNamed}
+use Rattle.header.proofs.Over.{over-none, over-le}
+use Rattle.header.proofs.Firsts.{over-same}
+use Rattle.header.proofs.Rightness.{most-le}
+use Rattle.header.proofs.planes.total_cells.Statement.{statement}
+use Rattle.header.proofs.planes.total_cells.Tie as tie
+
+abbrev S : tie.After-accepted → tie.Start
+S c = c .before
+
+abbrev A : tie.After-first-over → tie.After-accepted
+A c = c .before .before .before
+
+-- the counts, layer by layer
+abbrev counts : tie.Start → ℕ → ℕ
+counts s k = getD (s .args .planes) k 0
+
+yes-shape : (c : tie.Else1) → accepted (S (c .before) .args .shape) ≡ true
+yes-shape c = sym (c .before .accepted .ensures) ∙ not-false _ (c .if1 .left)
+
+no-shape : (c : tie.Then1) → accepted (S (c .before) .args .shape) ≡ false
+no-shape c = sym (c .before .accepted .ensures) ∙ not-true _ (c .if1 .taken)
+
+-- the first count over its limit
+over-is : (c : tie.After-first-over) → c .first-over .result ≡ firstOver (planesMost (S (A c) .args .shape)) (counts (S (A c)))
+over-is c =
+    let s = S (A c) in
+    c .first-over .ensures
+    ∙ over-same _ (planesMost (s .args .shape)) (counts s) (λ k l. ap (λ (m : _). getD m k 0) (c .before .limits .ensures) ∙ getD-tabulate layersMost (planesMost (s .args .shape)) k 0 l)
+
+none-is : (c : tie.Else2) → firstOver (planesMost (S (A (c .before)) .args .shape)) (counts (S (A (c .before)))) ≡ layersMost
+none-is c =
+    let s = S (A (c .before)) in
+    omega (arith, over-is (c .before), c .if2 .left, over-le (planesMost (s .args .shape)) (counts s))
+
+long : (s : tie.Start) → length (s .args .planes) ≡ 13
+long s = search needs
+
+accepted-requires : tie.Need-accepted-requires
+accepted-requires c κs = search needs
+
+returns : tie.Need-returns
+unfolding cellsNamed
+returns c = rw (no-shape c)
+
+limits-requires : tie.Need-limits-requires
+limits-requires c κs = yes-shape c
+
+first-over-requires : tie.Need-first-over-requires
+first-over-requires c κs = search needs
+
+returns-2 : tie.Need-returns-2
+unfolding cellsNamed
+returns-2 c =
+    let f = c .before in
+    let s = S (A f) in
+    let some : firstOver (planesMost (s .args .shape)) (counts s) ≡ layersMost → ⊥ = λ e. omega (arith, over-is f, c .if2 .taken) in
+    rw (yes-shape (f .before .before), ne-eqb _ _ some)
+
+cells-of-requires : tie.Need-cells-of-requires
+cells-of-requires c κs =
+    let f = c .before in
+    let s = S (A f) in
+    let few : (k : ℕ) → counts s k ≤ placesMost =
+    λ k.
+    elim (decLt k layersMost) [
+      | yes l ↦ omega (arith, over-none (planesMost (s .args .shape)) (counts s) (none-is c) k l, most-le (s .args .shape) k)
+      | no l ↦ omega (arith, List·getD-eq-default (s .args .planes) 0 {n = k} (omega (arith, long s)))
+    ] in
+    (yes-shape (f .before .before), few)
+
+returns-3 : tie.Need-returns-3
+unfolding cellsNamed
+returns-3 c =
+    let e = c .before in
+    let f = e .before in
+    rw (yes-shape (f .before .before), eq-eqb _ _ (none-is e)) (c .cells-of .ensures)
+
+pub total-cells-spec : {M : Type 1} → statement M
+total-cells-spec =
+    tie.close
+    (tie.spec
+    accepted-requires
+    returns
+    limits-requires
+    first-over-requires
+    returns-2
+    cells-of-requires
+    returns-3)
