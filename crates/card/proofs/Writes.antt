@@ -1,0 +1,189 @@
+-- What writing comes to, by the outcome of its tests one after the other. After them quantizing is not refused; where it finds a sample out of range so does writing, and else its coefficients are within 23 digits and their card is written.
+use mathlib.Core.Path.{_≡_, refl, sym, ap, _∙_}
+use mathlib.Core.Bool.{Bool, true, false, _&&_}
+use mathlib.Core.List.{List, _++_}
+use Prim.Native.Nat.{ℕ, _*_, _<_, _≤_}
+use native.Mathlib.Decide.{decLt}
+use native.Mathlib.Omega.{arith}
+use lib.Dec.{ltb, leb, eqb}
+use lib.IntN.{ℤ, pos}
+use lib.ListN.{length, drop, List·getD-eq-default}
+use borrow.Author.Tests.{lt-ltb, le-ltb, le-leb, lt-leb, eq-eqb, ne-eqb}
+use Rattle.integers.proofs.Bools.{and-both, and-no-left, and-no-right, or-left, or-right}
+use Rattle.digits.specs.Digits.{holds, evens, odds}
+use Rattle.digits.proofs.Range.{holds-by, range-23}
+use Rattle.layers.specs.declared.Shape.{Shape}
+use Rattle.layers.specs.declared.Curve.{Curve}
+use Rattle.layers.specs.declared.Scan.{Scan}
+use Rattle.layers.specs.declared.Scan.the-variants.{Clear, OutAt}
+use Rattle.layers.specs.declared.Quantized.{Quantized}
+use Rattle.layers.specs.declared.Quantized.the-variants.{Done, Refused, OutOfRange}
+use Rattle.layers.specs.Limits.{levelsMost, stepMost}
+use Rattle.layers.specs.Lists.{at}
+use Rattle.layers.specs.Sheet.{accepted, points}
+use Rattle.layers.specs.Layering.{layering, coefs}
+use Rattle.layers.specs.Calls as C
+use Rattle.layers.proofs.Accepting.{accepted-by}
+use Rattle.layers.proofs.Answers.{samples-by, right, after-scan}
+use Rattle.layers.proofs.Law.{length-coefs}
+use Rattle.layers.proofs.Range.{coefs-reach}
+use Rattle.header.specs.declared.Refusal.{Refusal}
+use Rattle.header.specs.declared.Refusal.the-variants as R
+use Rattle.header.specs.declared.Details.{Details}
+use Rattle.header.specs.Refusals.{refusal, detailsOf}
+use Rattle.header.specs.Header.{placesMost}
+use Rattle.card.specs.declared.Written.{Written}
+use Rattle.card.specs.Planes.{cardOf}
+use Rattle.card.specs.Writing.{outputLeast, badSizes, Writing, afterScan, badSettings, goodLengths, writing, told}
+use Rattle.card.specs.Writing as Wr
+use Rattle.card.proofs.BadSizes.{good-sizes}
+
+abbrev made : Details → ℕ → List ℤ → List ℤ → List ℕ → Writing
+made d n q v o = record { refused = d; long = n; coefficients = q; values = v; output = o }
+
+made-same : (d d′ : Details) (n n′ : ℕ) (q q′ v v′ : List ℤ) (o o′ : List ℕ) → d ≡ d′ → n ≡ n′ → q ≡ q′ → v ≡ v′ → o ≡ o′ → made d n q v o ≡ made d′ n′ q′ v′ o′
+made-same d d′ n n′ q q′ v v′ o o′ a b c e f =
+    ap (λ (x : Details). made x n q v o) a
+    ∙ ap (λ (x : ℕ). made d′ x q v o) b
+    ∙ ap (λ (x : List ℤ). made d′ n′ x v o) c
+    ∙ ap (λ (x : List ℤ). made d′ n′ q′ x o) e
+    ∙ ap (λ (x : List ℕ). made d′ n′ q′ v′ x) f
+
+zero-holds : holds placesMost (pos 0) ≡ true
+unfolding holds evens odds
+zero-holds = refl
+
+module _ (xs : List ℤ) (sh : Shape) (curve : Curve) (e : ℕ) (qs vs : List ℤ) (out : List ℕ) where
+  -- a refusal told
+  told-no : (w : Written) (r : Refusal) → w .refusal ≡ r → w .length ≡ 0 → told w qs vs out ≡ Wr.no xs sh curve e qs vs out (detailsOf r)
+  told-no w r a b = made-same (detailsOf (w .refusal)) (detailsOf r) (w .length) 0 qs qs vs vs out out (ap detailsOf a) b refl refl refl
+
+  pub bad-size : badSizes (sh .rows) (sh .cols) ≡ true → (w : Written) → w .refusal ≡ R.BadSize → w .length ≡ 0 → told w qs vs out ≡ writing xs sh curve e qs vs out
+  unfolding writing
+  bad-size y w a b = rw y (told-no w R.BadSize a b)
+
+  module _ (n : badSizes (sh .rows) (sh .cols) ≡ false) where
+    pub bad-settings : badSettings xs sh curve e qs vs out ≡ true → (w : Written) → w .refusal ≡ R.BadSettings → w .length ≡ 0 → told w qs vs out ≡ writing xs sh curve e qs vs out
+    unfolding writing
+    bad-settings y w a b = rw (n, y) (told-no w R.BadSettings a b)
+
+    pub many-levels : levelsMost < sh .levels → badSettings xs sh curve e qs vs out ≡ true
+    many-levels h = or-left (ltb levelsMost (sh .levels)) (ltb stepMost e) (lt-ltb levelsMost (sh .levels) h)
+
+    pub wide-step : ltb stepMost e ≡ true → badSettings xs sh curve e qs vs out ≡ true
+    wide-step h = or-right (ltb levelsMost (sh .levels)) (ltb stepMost e) h
+
+    module _ (l : sh .levels ≤ levelsMost) (s : e ≤ stepMost) where
+      good-settings : badSettings xs sh curve e qs vs out ≡ false
+      good-settings = rw (le-ltb levelsMost (sh .levels) l, le-ltb stepMost e s)
+
+      pub bad-lengths : goodLengths xs sh curve e qs vs out ≡ false → (w : Written) → w .refusal ≡ R.BadLengths → w .length ≡ 0 → told w qs vs out ≡ writing xs sh curve e qs vs out
+      unfolding writing
+      bad-lengths y w a b = rw (n, good-settings, y) (told-no w R.BadLengths a b)
+
+      abbrev pts : ℕ
+      pts = sh .rows * sh .cols
+
+      abbrev front : Bool
+      front = eqb (length xs) pts && eqb (length qs) pts
+
+      abbrev back : Bool
+      back = eqb (length vs) pts && leb outputLeast (length out)
+
+      pub short-samples : (length xs ≡ pts → ⊥) → goodLengths xs sh curve e qs vs out ≡ false
+      short-samples h = and-no-left front back (and-no-left (eqb (length xs) pts) (eqb (length qs) pts) (ne-eqb _ _ h))
+
+      pub short-coefficients : (length qs ≡ pts → ⊥) → goodLengths xs sh curve e qs vs out ≡ false
+      short-coefficients h = and-no-left front back (and-no-right (eqb (length xs) pts) (eqb (length qs) pts) (ne-eqb _ _ h))
+
+      pub short-values : (length vs ≡ pts → ⊥) → goodLengths xs sh curve e qs vs out ≡ false
+      short-values h = and-no-right front back (and-no-left (eqb (length vs) pts) (leb outputLeast (length out)) (ne-eqb _ _ h))
+
+      pub short-output : length out < outputLeast → goodLengths xs sh curve e qs vs out ≡ false
+      short-output h = and-no-right front back (and-no-right (eqb (length vs) pts) (leb outputLeast (length out)) (lt-leb _ _ h))
+
+      pub shape-accepted : accepted sh ≡ true
+      shape-accepted = let g = good-sizes (sh .rows) (sh .cols) n in accepted-by sh (record { tall = g .0; wide = g .1; small = g .2; shallow = l })
+
+      is-settled : C.settled sh e ≡ true
+      is-settled = unfold C.settled in (and-both (accepted sh) (leb e stepMost) shape-accepted (le-leb e stepMost s))
+
+      -- every length is right
+      module _ (hx : length xs ≡ pts) (hq : length qs ≡ pts) (hv : length vs ≡ pts) (ho : outputLeast ≤ length out) where
+        good : goodLengths xs sh curve e qs vs out ≡ true
+        good =
+            and-both front back
+            (and-both (eqb (length xs) pts) (eqb (length qs) pts) (eq-eqb _ _ hx) (eq-eqb _ _ hq))
+            (and-both (eqb (length vs) pts) (leb outputLeast (length out)) (eq-eqb _ _ hv) (le-leb _ _ ho))
+
+        writes : writing xs sh curve e qs vs out ≡ afterScan xs sh curve e qs vs out (C.scanned (sh .cols) xs)
+        unfolding writing
+        writes = rw (n, good-settings, good)
+
+        abbrev Q : C.Quantizing
+        Q = C.quantizing sh curve e xs qs vs
+
+        quantizes : Q ≡ C.afterScan sh curve e xs qs vs (C.scanned (sh .cols) xs)
+        quantizes = after-scan sh curve e xs qs vs (right sh curve e xs qs vs is-settled hx hq hv) (C.scanned (sh .cols) xs) refl
+
+        answered : (a : Quantized) → a ≡ Q .answer → a ≡ C.afterScan sh curve e xs qs vs (C.scanned (sh .cols) xs) .answer
+        answered a x = x ∙ ap (λ (z : C.Quantizing). z .answer) quantizes
+
+        left-coefs : (q : List ℤ) → q ≡ Q .coefficients → q ≡ C.afterScan sh curve e xs qs vs (C.scanned (sh .cols) xs) .coefficients
+        left-coefs q x = x ∙ ap (λ (z : C.Quantizing). z .coefficients) quantizes
+
+        left-values : (v : List ℤ) → v ≡ Q .values → v ≡ C.afterScan sh curve e xs qs vs (C.scanned (sh .cols) xs) .values
+        left-values v x = x ∙ ap (λ (z : C.Quantizing). z .values) quantizes
+
+        -- it is not refused
+        pub not-refused : Refused ≡ Q .answer → ⊥
+        not-refused x = go (C.scanned (sh .cols) xs) (answered Refused x) where
+          go : (s : Scan) → Refused ≡ C.afterScan sh curve e xs qs vs s .answer → ⊥
+          go Clear y = let z : _≡_ {A = ℕ} 0 1 = cc in omega arith
+          go (OutAt r c) y = let z : _≡_ {A = ℕ} 0 1 = cc in omega arith
+
+        -- a sample is out of range
+        abbrev outDetails : Quantized → Details
+        outDetails Done = refusal 0 0 0
+        outDetails Refused = refusal 3 0 0
+        outDetails (OutOfRange r c) = refusal 4 r c
+
+        pub out-at : (row col : ℕ) (q v : List ℤ) (w : Written) → OutOfRange row col ≡ Q .answer → q ≡ Q .coefficients → v ≡ Q .values → w .refusal ≡ R.BadSample row col → w .length ≡ 0
+            → told w q v out ≡ writing xs sh curve e qs vs out
+        out-at row col q v w x y z a b = go (C.scanned (sh .cols) xs) (answered _ x) (left-coefs q y) (left-values v z) ∙ sym writes where
+          go : (s : Scan) → OutOfRange row col ≡ C.afterScan sh curve e xs qs vs s .answer → q ≡ C.afterScan sh curve e xs qs vs s .coefficients → v ≡ C.afterScan sh curve e xs qs vs s .values
+              → told w q v out ≡ afterScan xs sh curve e qs vs out s
+          go Clear f g h = absurd (let z : _≡_ {A = ℕ} 0 1 = cc in omega arith)
+          go (OutAt r c) f g h =
+              made-same (detailsOf (w .refusal)) (refusal 4 r c) (w .length) 0 q qs v vs out out (ap detailsOf a ∙ ap outDetails f) b g h refl
+
+        -- all are in range
+        pub coefs-held : (q : List ℤ) → Done ≡ Q .answer → q ≡ Q .coefficients → (length q ≡ points sh) × ((p : ℕ) → holds placesMost (at q p) ≡ true)
+        coefs-held q x y = go (C.scanned (sh .cols) xs) refl (answered _ x) (left-coefs q y) where
+          go : (s : Scan) → C.scanned (sh .cols) xs ≡ s → Done ≡ C.afterScan sh curve e xs qs vs s .answer → q ≡ C.afterScan sh curve e xs qs vs s .coefficients
+              → (length q ≡ points sh) × ((p : ℕ) → holds placesMost (at q p) ≡ true)
+          go (OutAt r c) k f g = absurd (let z : _≡_ {A = ℕ} 0 1 = cc in omega arith)
+          go Clear k f g = rw g (
+            long,
+            λ p. elim (decLt p (points sh)) [
+              | yes h ↦
+                  let reach = coefs-reach (samples-by sh e xs is-settled hx k) curve p h in
+                  holds-by placesMost _ (record { low = omega (arith, reach .0, range-23); high = omega (arith, reach .1, range-23) })
+              | no h ↦
+                  let past : length (coefs (layering sh curve) e xs) ≤ p = omega (arith, long) in
+                  rw (List·getD-eq-default (coefs (layering sh curve) e xs) (pos 0) past) zero-holds
+            ],
+          )
+            where
+              long : length (coefs (layering sh curve) e xs) ≡ points sh
+              long = length-coefs (layering sh curve) e xs
+
+        pub card-told : (q v : List ℤ) (r : ℕ) (o : List ℕ) → Done ≡ Q .answer → q ≡ Q .coefficients → v ≡ Q .values → r ≡ length (cardOf sh curve e q)
+            → o ≡ cardOf sh curve e q ++ drop (length (cardOf sh curve e q)) out → told (record { refusal = R.Accepted; length = r }) q v o ≡ writing xs sh curve e qs vs out
+        card-told q v r o x y z a b = go (C.scanned (sh .cols) xs) (answered _ x) (left-coefs q y) (left-values v z) ∙ sym writes where
+          go : (s : Scan) → Done ≡ C.afterScan sh curve e xs qs vs s .answer → q ≡ C.afterScan sh curve e xs qs vs s .coefficients → v ≡ C.afterScan sh curve e xs qs vs s .values
+              → told (record { refusal = R.Accepted; length = r }) q v o ≡ afterScan xs sh curve e qs vs out s
+          go (OutAt r c) f g h = absurd (let z : _≡_ {A = ℕ} 0 1 = cc in omega arith)
+          go Clear f g h =
+              made-same (refusal 0 0 0) (refusal 0 0 0) r _ q _ v _ o _ refl (a ∙ ap (λ (x : List ℤ). length (cardOf sh curve e x)) g) g h
+              (b ∙ ap (λ (x : List ℤ). cardOf sh curve e x ++ drop (length (cardOf sh curve e x)) out) g)

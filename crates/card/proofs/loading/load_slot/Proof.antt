@@ -1,0 +1,75 @@
+-- By the two tests, which say whether the plane is asked for; then by whether it is fine.
+use mathlib.Core.Path.{_≡_, sym, ap, _∙_}
+use mathlib.Core.Bool.{Bool, true, false}
+use Prim.Native.Nat.{ℕ, suc}
+use native.Mathlib.Omega.{arith}
+use borrow.Author.Tests.{not-true, not-false}
+use denote.Ref.{now}
+use native.Mathlib.Numerals.{add-one}
+use lib.Dec.{eqb}
+use Rattle.card.specs.Words.{asked, fineAt}
+use Rattle.card.proofs.SlotTests.{asked-yes, asked-less, asked-out, slot-none, slot-bad, slot-good}
+use borrow.Author.Needs.{needs}
+use Rattle.card.proofs.loading.load_slot.Statement.{statement}
+use Rattle.card.proofs.loading.load_slot.Tie as tie
+
+-- both answers, the other way round
+both : {A B : Type 0} {a a′ : A} {b b′ : B} → (a ≡ a′) × (b ≡ b′) → (a′ ≡ a) × (b′ ≡ b)
+both e = (sym (e .0), sym (e .1))
+
+is-asked : (c : tie.Else2) → asked (c .before .before .before .before .args .count) (c .before .before .before .before .args .want) (c .before .before .before .before .args .p) ≡ true
+is-asked c = let s = c .before .before .before .before in asked-yes (s .args .count) (s .args .want) (s .args .p) (omega arith) (omega arith)
+
+fine-is : (c : tie.After-is-fine) (r : Bool) → c .is-fine .result ≡ r → fineAt (now (c .before .before .before .before .before .args .bytes)) (c .before .before .before .before .before .args .from) (c .before .before .before .before .before .args .n) (c .before .before .before .before .before .args .cells) (eqb (suc (c .before .before .before .before .before .args .p)) (c .before .before .before .before .before .args .count)) ≡ r
+fine-is c r e = let s = c .before .before .before .before .before in
+    ap (λ (q : ℕ). fineAt (now (s .args .bytes)) (s .args .from) (s .args .n) (s .args .cells) (eqb q (s .args .count))) (sym (add-one (s .args .p)))
+    ∙ sym (c .is-fine .ensures) ∙ e
+
+returns : tie.Need-returns
+returns c = let s = c .before .before .before in
+    both (slot-none (now (s .args .bytes)) (s .args .from) (s .args .n) (s .args .cells) (s .args .count) (s .args .want) (s .args .p) (now (s .args .words)) (s .args .start) (asked-out (s .args .count) (s .args .want) (s .args .p) (omega arith)))
+
+sub-if2 : tie.Need-sub-if2
+sub-if2 c = search needs
+
+returns-2 : tie.Need-returns-2
+returns-2 c = let s = c .before .before .before .before in
+    both (slot-none (now (s .args .bytes)) (s .args .from) (s .args .n) (s .args .cells) (s .args .count) (s .args .want) (s .args .p) (now (s .args .words)) (s .args .start) (asked-less (s .args .count) (s .args .want) (s .args .p) (omega arith)))
+
+add-is-fine : tie.Need-add-is-fine
+add-is-fine c = search needs
+
+is-fine-requires : tie.Need-is-fine-requires
+is-fine-requires c κs = let s = c .before .before .before .before in
+    (s .pre .0 .2, s .pre .0 .3, s .pre .1 .0 (is-asked c))
+
+returns-3 : tie.Need-returns-3
+returns-3 c = let s = c .before .before .before .before .before .before in
+    both (slot-bad (now (s .args .bytes)) (s .args .from) (s .args .n) (s .args .cells) (s .args .count) (s .args .want) (s .args .p) (now (s .args .words)) (s .args .start) (is-asked (c .before .before)) (fine-is (c .before) false (not-true (c .before .is-fine .result) (c .if3 .taken))))
+
+add-plane-requires : tie.Need-add-plane-requires
+add-plane-requires c κs = let s = c .before .before .before .before .before .before .before in
+    ((s .pre .0 .0, s .pre .0 .3, s .pre .0 .4, s .pre .1 .0 (is-asked (c .before .before .before))), s .pre .1 .1)
+
+same-length : tie.Need-same-length
+same-length c = search needs
+
+returns-4 : tie.Need-returns-4
+returns-4 c = let e = c .before .before .before in
+    let s = e .before .before .before .before .before .before .before in
+    let good = slot-good (now (s .args .bytes)) (s .args .from) (s .args .n) (s .args .cells) (s .args .count) (s .args .want) (s .args .p) (now (s .args .words)) (s .args .start) (is-asked (e .before .before .before)) (fine-is (e .before .before) true (not-false (e .before .before .is-fine .result) (e .before .if3 .left))) in
+    (sym (good .0), c .before .before .add-plane .ensures ∙ sym (good .1))
+
+pub load-slot-spec : {M : Type 1} → statement M
+load-slot-spec =
+    tie.close
+    (tie.spec
+    returns
+    sub-if2
+    returns-2
+    add-is-fine
+    is-fine-requires
+    returns-3
+    add-plane-requires
+    same-length
+    returns-4)

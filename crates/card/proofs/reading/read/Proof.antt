@@ -1,0 +1,67 @@
+-- By what `open` answers: any refusal is passed on, and a card that was opened has a right header within its bytes, so it can be read on.
+use mathlib.Core.Path.{ap, _∙_}
+use borrow.Author.Needs.{needs}
+use denote.Ref.{now}
+use Rattle.card.specs.declared.Reached.{Reached}
+use Rattle.card.specs.Reading.{told}
+use Rattle.card.proofs.ReadCall.{refusing, read-refused, header-right, header-here, read-on}
+use Rattle.card.proofs.reading.read.Statement.{statement}
+use Rattle.card.proofs.reading.read.Tie as tie
+
+abbrev S : tie.After-open → tie.Start
+S c = c .before .before
+
+abbrev L : tie.After-enum-told → tie.After-open
+L c = c .before .before
+
+open-requires : tie.Need-open-requires
+open-requires c κs = search needs
+
+enum-told : tie.Need-enum-told
+enum-told c = search needs
+
+read-opened-requires : tie.Need-read-opened-requires
+read-opened-requires c κs =
+    let t = c .before .before .before in
+    let o = L t in
+    let bs = now (S o .args .bytes) in
+    (header-right bs (o .«open» .result) (o .«open» .ensures) (t .enum-told .given .1), header-here bs (o .«open» .result) (o .«open» .ensures) (t .enum-told .given .1))
+
+refused-requires : tie.Need-refused-requires
+refused-requires c κs = search needs
+
+same-length : tie.Need-same-length
+same-length c = search needs
+
+same-length-2 : tie.Need-same-length-2
+same-length-2 c = search needs
+
+returns : tie.Need-returns
+returns c =
+    let r = c .before .before in
+    let t = r .before .before .before .before in
+    let o = L t in
+    let s = S o in
+    r .read-opened .ensures
+    ∙ read-on (now (s .args .bytes)) (o .«open» .result) (o .«open» .ensures) (t .enum-told .given .1) (now (s .args .coefficients)) (now (s .args .values)) (s .args .plan)
+
+returns-2 : tie.Need-returns-2
+returns-2 c =
+    let o = c .before .before in
+    let s = S o in
+    ap (λ (r : Reached). told r (now (s .args .coefficients)) (now (s .args .values))) (c .refused .ensures)
+    ∙ read-refused (now (s .args .bytes)) (o .«open» .result) (o .«open» .ensures) (now (s .args .coefficients)) (now (s .args .values)) (s .args .plan)
+    (refusing (o .«open» .result .refusal) (c .before .match .keys2))
+
+pub read-spec : {M : Type 1} → statement M
+read-spec =
+    tie.close
+    (tie.spec
+    open-requires
+    enum-told
+    read-opened-requires
+    refused-requires
+    same-length
+    same-length-2
+    returns
+    returns-2)

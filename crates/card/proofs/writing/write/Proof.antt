@@ -1,0 +1,232 @@
+-- By the tests in turn, each of which is one of the definition's. After them quantizing is not refused; what it answers is what writing answers, and where it is done its coefficients are within 23 digits, so that their card is written.
+use mathlib.Core.Logic.{⊎-elim}
+use mathlib.Core.Path.{_≡_, refl, sym, _∙_}
+use mathlib.Core.Bool.{false}
+use mathlib.Core.List.{List}
+use Prim.Native.Nat.{ℕ, _*_, _≤_}
+use native.Mathlib.Omega.{arith}
+use lib.IntN.{ℤ}
+use lib.ListN.{length}
+use borrow.Author.Needs.{needs}
+use borrow.Author.Tests.{not-true, not-false, eqb-true, eqb-false, ltb-true, ltb-false}
+use denote.Ref.{now}
+use Rattle.layers.specs.declared.Shape.{Shape}
+use Rattle.layers.specs.Limits.{levelsMost, stepMost}
+use Rattle.card.specs.Writing.{outputLeast, badSizes, shapeOf}
+use Rattle.card.proofs.BadSizes.{good-sizes}
+use Rattle.card.proofs.Writes as W
+use Rattle.card.proofs.writing.write.Statement.{statement}
+use Rattle.card.proofs.writing.write.Tie as tie
+
+-- what is given
+abbrev Xs : tie.Start → List ℤ
+Xs a = now (a .args .samples)
+
+abbrev Sh : tie.Start → Shape
+Sh a = shapeOf (a .args .rows) (a .args .cols) (a .args .levels)
+
+abbrev Qs : tie.Start → List ℤ
+Qs a = now (a .args .coefficients)
+
+abbrev Vs : tie.Start → List ℤ
+Vs a = now (a .args .values)
+
+abbrev Out : tie.Start → List ℕ
+Out a = now (a .args .output)
+
+-- what the tests leave
+abbrev A1 : tie.Else1 → tie.Start
+A1 d = d .before .before .before
+
+sizes : (d : tie.Else1) → badSizes (A1 d .args .rows) (A1 d .args .cols) ≡ false
+sizes d = sym (d .before .bad-size .ensures) ∙ d .if1 .left
+
+abbrev A3 : tie.Else3 → tie.Start
+A3 d = A1 (d .before .before)
+
+levels-few : (d : tie.Else3) → A3 d .args .levels ≤ levelsMost
+levels-few d = d .before .if2 .left
+
+step-few : (d : tie.Else3) → A3 d .args .step ≤ stepMost
+step-few d = ltb-false _ _ (d .if3 .left)
+
+abbrev A5 : tie.Else5 → tie.Start
+A5 d = A3 (d .before .before)
+
+samples-long : (d : tie.Else5) → length (Xs (A5 d)) ≡ A5 d .args .rows * A5 d .args .cols
+samples-long d = d .before .if4 .left
+
+coefficients-long : (d : tie.Else5) → length (Qs (A5 d)) ≡ A5 d .args .rows * A5 d .args .cols
+coefficients-long d = eqb-true _ _ (not-false _ (d .if5 .left))
+
+abbrev A7 : tie.Else7 → tie.Start
+A7 d = A5 (d .before .before)
+
+values-long : (d : tie.Else7) → length (Vs (A7 d)) ≡ A7 d .args .rows * A7 d .args .cols
+values-long d = d .before .if6 .left
+
+output-long : (d : tie.Else7) → outputLeast ≤ length (Out (A7 d))
+output-long d = ltb-false _ _ (d .if7 .left)
+
+abbrev D : tie.After-quantize → tie.Else7
+D q = q .before .before .before
+
+abbrev A : tie.After-quantize → tie.Start
+A q = A7 (D q)
+
+bad-size-requires : tie.Need-bad-size-requires
+bad-size-requires c κs = search needs
+
+refused-requires : tie.Need-refused-requires
+refused-requires c κs = search needs
+
+returns : tie.Need-returns
+returns c = let b = c .before .before in
+    let a = b .before .before in
+    W.bad-size (Xs a) (Sh a) (a .args .curve) (a .args .step) (Qs a) (Vs a) (Out a) (sym (b .bad-size .ensures) ∙ c .before .if1 .taken) (c .refused .result) (c .refused .ensures .0) (c .refused .ensures .1)
+
+refused-requires-2 : tie.Need-refused-requires-2
+refused-requires-2 c κs = search needs
+
+returns-2 : tie.Need-returns-2
+returns-2 c = let j = c .before in
+    let d = j .before in
+    let a = A1 d in
+    W.bad-settings (Xs a) (Sh a) (a .args .curve) (a .args .step) (Qs a) (Vs a) (Out a) (sizes d)
+    (⊎-elim (λ w. W.many-levels (Xs a) (Sh a) (a .args .curve) (a .args .step) (Qs a) (Vs a) (Out a) (sizes d) (w .taken)) (λ w. W.wide-step (Xs a) (Sh a) (a .args .curve) (a .args .step) (Qs a) (Vs a) (Out a) (sizes d) (w .1 .taken)) (j .if2 .came))
+    (c .refused2 .result) (c .refused2 .ensures .0) (c .refused2 .ensures .1)
+
+mul-points : tie.Need-mul-points
+mul-points c = let a = A3 c in omega (arith, good-sizes (a .args .rows) (a .args .cols) (sizes (c .before .before)) .2)
+
+refused-requires-3 : tie.Need-refused-requires-3
+refused-requires-3 c κs = search needs
+
+returns-3 : tie.Need-returns-3
+returns-3 c = let j = c .before in
+    let d = j .before in
+    let a = A3 d in
+    let n = sizes (d .before .before) in
+    W.bad-lengths (Xs a) (Sh a) (a .args .curve) (a .args .step) (Qs a) (Vs a) (Out a) n (levels-few d) (step-few d)
+    (⊎-elim (λ w. W.short-samples (Xs a) (Sh a) (a .args .curve) (a .args .step) (Qs a) (Vs a) (Out a) n (levels-few d) (step-few d) (w .taken)) (λ w. W.short-coefficients (Xs a) (Sh a) (a .args .curve) (a .args .step) (Qs a) (Vs a) (Out a) n (levels-few d) (step-few d) (eqb-false _ _ (not-true _ (w .1 .taken)))) (j .if4 .came))
+    (c .refused3 .result) (c .refused3 .ensures .0) (c .refused3 .ensures .1)
+
+refused-requires-4 : tie.Need-refused-requires-4
+refused-requires-4 c κs = search needs
+
+returns-4 : tie.Need-returns-4
+returns-4 c = let j = c .before in
+    let d = j .before .before .before in
+    let a = A3 d in
+    let n = sizes (d .before .before) in
+    W.bad-lengths (Xs a) (Sh a) (a .args .curve) (a .args .step) (Qs a) (Vs a) (Out a) n (levels-few d) (step-few d)
+    (⊎-elim (λ w. W.short-values (Xs a) (Sh a) (a .args .curve) (a .args .step) (Qs a) (Vs a) (Out a) n (levels-few d) (step-few d) (w .taken)) (λ w. W.short-output (Xs a) (Sh a) (a .args .curve) (a .args .step) (Qs a) (Vs a) (Out a) n (levels-few d) (step-few d) (ltb-true _ _ (w .1 .taken))) (j .if6 .came))
+    (c .refused4 .result) (c .refused4 .ensures .0) (c .refused4 .ensures .1)
+
+quantize-requires : tie.Need-quantize-requires
+quantize-requires c κs = search needs
+
+enum-told : tie.Need-enum-told
+enum-told c = search needs
+
+refused-requires-5 : tie.Need-refused-requires-5
+refused-requires-5 c κs = search needs
+
+enum-known-row : tie.Need-enum-known-row
+enum-known-row c = search needs
+
+refused-requires-6 : tie.Need-refused-requires-6
+refused-requires-6 c κs = search needs
+
+enum-told-2 : tie.Need-enum-told-2
+enum-told-2 c = search needs
+
+slice-aggregate-write-card : tie.Need-slice-aggregate-write-card
+slice-aggregate-write-card c = search needs
+
+write-card-requires : tie.Need-write-card-requires
+write-card-requires c κs = let t = c .before .before .before in
+    let q = t .before .before .before .before in
+    let d = D q in
+    let a = A q in
+    let n = sizes (d .before .before .before .before .before .before) in
+    let three = d .before .before .before .before in (
+      (W.shape-accepted (Xs a) (Sh a) (a .args .curve) (a .args .step) (Qs a) (Vs a) (Out a) n (levels-few three) (step-few three), step-few three, output-long d),
+      (W.coefs-held (Xs a) (Sh a) (a .args .curve) (a .args .step) (Qs a) (Vs a) (Out a) (sizes (d .before .before .before .before .before .before)) (levels-few (d .before .before .before .before)) (step-few (d .before .before .before .before)) (samples-long (d .before .before)) (coefficients-long (d .before .before)) (values-long d) (output-long d) _ (sym (t .enum-told2 .given .1) ∙ q .quantize .ensures .0) (q .quantize .ensures .1), refl),
+    )
+
+same-length : tie.Need-same-length
+same-length c = search needs
+
+same-length-2 : tie.Need-same-length-2
+same-length-2 c = search needs
+
+returns-5 : tie.Need-returns-5
+returns-5 c = let t = c .before in
+    let q = t .before .before .before .before in
+    let d = D q in
+    let a = A q in
+    absurd (W.not-refused (Xs a) (Sh a) (a .args .curve) (a .args .step) (Qs a) (Vs a) (Out a) (sizes (d .before .before .before .before .before .before)) (levels-few (d .before .before .before .before)) (step-few (d .before .before .before .before)) (samples-long (d .before .before)) (coefficients-long (d .before .before)) (values-long d) (output-long d) (sym (t .enum-told .given .1) ∙ q .quantize .ensures .0))
+
+same-length-3 : tie.Need-same-length-3
+same-length-3 c = search needs
+
+same-length-4 : tie.Need-same-length-4
+same-length-4 c = search needs
+
+returns-6 : tie.Need-returns-6
+returns-6 c = let r = c .before .before in
+    let q = r .before .before .before .before in
+    let d = D q in
+    let a = A q in
+    W.out-at (Xs a) (Sh a) (a .args .curve) (a .args .step) (Qs a) (Vs a) (Out a) (sizes (d .before .before .before .before .before .before)) (levels-few (d .before .before .before .before)) (step-few (d .before .before .before .before)) (samples-long (d .before .before)) (coefficients-long (d .before .before)) (values-long d) (output-long d) _ _ _ _ (c .refused6 .result) (sym (r .row .given .1) ∙ q .quantize .ensures .0) (q .quantize .ensures .1) (q .quantize .ensures .2) (c .refused6 .ensures .0) (c .refused6 .ensures .1)
+
+same-length-5 : tie.Need-same-length-5
+same-length-5 c = search needs
+
+same-length-6 : tie.Need-same-length-6
+same-length-6 c = search needs
+
+same-length-7 : tie.Need-same-length-7
+same-length-7 c = search needs
+
+returns-7 : tie.Need-returns-7
+returns-7 c = let w = c .before .before .before in
+    let t = w .before .before .before .before in
+    let q = t .before .before .before .before in
+    let d = D q in
+    let a = A q in
+    W.card-told (Xs a) (Sh a) (a .args .curve) (a .args .step) (Qs a) (Vs a) (Out a) (sizes (d .before .before .before .before .before .before)) (levels-few (d .before .before .before .before)) (step-few (d .before .before .before .before)) (samples-long (d .before .before)) (coefficients-long (d .before .before)) (values-long d) (output-long d) _ _ _ _ (sym (t .enum-told2 .given .1) ∙ q .quantize .ensures .0) (q .quantize .ensures .1) (q .quantize .ensures .2) (w .write-card .ensures .0) (w .write-card .ensures .1)
+
+pub write-spec : {M : Type 1} → statement M
+write-spec =
+    tie.close
+    (tie.spec
+    bad-size-requires
+    refused-requires
+    returns
+    refused-requires-2
+    returns-2
+    mul-points
+    refused-requires-3
+    returns-3
+    refused-requires-4
+    returns-4
+    quantize-requires
+    enum-told
+    refused-requires-5
+    enum-known-row
+    refused-requires-6
+    enum-told-2
+    slice-aggregate-write-card
+    write-card-requires
+    same-length
+    same-length-2
+    returns-5
+    same-length-3
+    same-length-4
+    returns-6
+    same-length-5
+    same-length-6
+    same-length-7
+    returns-7)

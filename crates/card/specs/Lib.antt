@@ -1,0 +1,5 @@
+pub mod Planes
+pub mod Writing
+pub mod Reading
+pub mod Refining
+pub mod Words

@@ -1,0 +1,72 @@
+-- Refining (document 01, "Reading and refining" and "When the box says no").
+use mathlib.Core.Bool.{Bool, true, false, cond, not, _&&_, _||_}
+use mathlib.Core.List.{List, [], _∷_}
+use Prim.Native.Nat.{ℕ, suc, _+_, _*_, _-_}
+use lib.Dec.{ltb, leb, eqb}
+use lib.IntN.{ℤ, pos, _+ℤ_, _*ℤ_}
+use lib.ListN.{length}
+use Rattle.digits.specs.Digits.{holds, weight}
+use Rattle.layers.specs.declared.Shape.{Shape}
+use Rattle.layers.specs.Limits.{layersMost}
+use Rattle.layers.specs.Lists.{at, tabulate}
+use Rattle.layers.specs.Sheet.{points, layers, inLayer, placeIn}
+use Rattle.layers.specs.Layering.{layering, rebuilt}
+use Rattle.header.specs.declared.Header.{Header}
+use Rattle.header.specs.declared.Plan.{Plan}
+use Rattle.header.specs.Refusals.{refusal}
+use Rattle.header.specs.Header.{placesMost, planesOf}
+use Rattle.header.specs.Plan.{loads, firstOver, withPlane}
+use Rattle.header.specs.Opening.{opening}
+use Rattle.header.specs.Figure.{figureOf}
+use Rattle.card.specs.Planes.{allBelow}
+use Rattle.card.specs.Reading.{Reading, bitOf, fine}
+use Rattle.card.specs.Reading as R
+
+-- "11, a coefficient outside the 23-digit range"
+unfoldable pub allHeld : List ℤ → Bool
+allHeld qs = allBelow (λ j. holds placesMost (at qs j)) (length qs)
+
+-- the coefficients with the digits of a plane at place p of layer k added: each point's digit adds its weight
+unfoldable pub coefsPlus : Shape → ℕ → ℕ → (ℕ → ℕ) → List ℤ → List ℤ
+coefsPlus sh k p digit qs =
+    tabulate (length qs) (λ j. cond (inLayer sh k j) (at qs j +ℤ pos (digit (placeIn sh k j)) *ℤ weight p) (at qs j))
+
+abbrev pub coefsWith : Header → ℕ → List ℕ → ℕ → ℕ → List ℤ → List ℤ
+coefsWith h long bs k p qs = coefsPlus (h .shape) k p (bitOf h long bs k p) qs
+
+module _ (qs vs : List ℤ) where
+  -- "8 for the new plane (detail: its layer)"
+  abbrev pub refinePlane : Header → ℕ → List ℕ → Plan → ℕ → ℕ → Reading
+  refinePlane h long bs plan k p =
+      cond (fine h long bs k p)
+      (record {
+        refused = refusal 0 0 0;
+        plan = withPlane plan k;
+        figure = figureOf h (loads (withPlane plan k));
+        coefficients = coefsWith h long bs k p qs;
+        values = rebuilt (layering (h .shape) (h .curve)) (h .step) (coefsWith h long bs k p qs);
+      })
+      (R.no qs vs (refusal 8 k 0))
+
+  -- "9 (.. then the layer asked for, which is the detail: past the last layer, or with no further plane, or its next plane not whole)": whole
+  -- planes are at most the header's, so one test serves the last two; then "11, a coefficient outside the 23-digit range"
+  abbrev pub refineLayer : List ℕ → Header → ℕ → Plan → ℕ → Reading
+  refineLayer bs h long plan k =
+      cond (ltb k (layers (h .shape)) && ltb (loads plan k) (loads (R.wholeOf qs vs bs h long) k))
+      (cond (allHeld qs)
+      (refinePlane h long bs plan k (planesOf h k - suc (loads plan k)))
+      (R.no qs vs (refusal 11 0 0)))
+      (R.no qs vs (refusal 9 k 0))
+
+  -- "9 (the plan as above ..)"
+  abbrev pub refinePlan : List ℕ → Header → ℕ → Plan → ℕ → ℕ → Reading
+  refinePlan bs h long plan k over = cond (ltb over layersMost) (R.no qs vs (refusal 9 over 0)) (refineLayer bs h long plan k)
+
+  unfoldable pub refineOpened : List ℕ → Header → ℕ → Plan → ℕ → Reading
+  refineOpened bs h long plan k =
+      cond (R.goodLengths qs vs h)
+      (refinePlan bs h long plan k (firstOver (loads (R.wholeOf qs vs bs h long)) (loads plan)))
+      (R.no qs vs (refusal 3 0 0))
+
+  unfoldable pub refining : List ℕ → Plan → ℕ → Reading
+  refining bs plan k = R.afterOpening qs vs (opening bs) (λ h long. refineOpened bs h long plan k)

@@ -1,0 +1,131 @@
+-- What the private functions work with: the coefficients of all layers as words, laid in layer order.
+-- The word of a coefficient is q and the weights of the odd places together: digit p of q is bit p of it, turned over at an odd place. Each
+-- layer's words fill whole cells, spare ones being the word of 0, so that a byte of a plane is one bit of eight neighbouring words.
+use mathlib.Core.Bool.{Bool, true, cond, not, _&&_, _||_}
+use mathlib.Core.List.{List, [], _++_}
+use mathlib.Core.Path.{_≡_}
+use Prim.Native.Nat.{ℕ, zero, suc, _+_, _*_, _-_, _/_, _%_, _^_, _<_, _≤_}
+use lib.Dec.{ltb, leb, eqb}
+use lib.IntN.{ℤ, pos, natAbs, _+ℤ_, _-ℤ_}
+use lib.ListN.{length, getD}
+use Rattle.digits.specs.Digits.{holds, value, bitsOf, firstFrom}
+use Rattle.layers.specs.declared.Shape.{Shape}
+use Rattle.layers.specs.Lists.{at, tabulate, total}
+use Rattle.layers.specs.Sheet.{points, layers, layerSize, pointOf, placeIn, inLayer}
+use Rattle.header.specs.declared.Header.{Header}
+use Rattle.header.specs.Header.{placesMost, cellBytes, cellPoints, planesOf, planeCells}
+use Rattle.card.specs.Planes.{packed, allBelow, ownLayer}
+use Rattle.card.specs.Reading.{bitOf, loaded, slots, slotLayer, firstBad}
+use Rattle.card.specs.declared.Loaded.{Loaded}
+use Rattle.card.specs.declared.Loaded.the-variants.{Fine, Bad}
+use Rattle.header.specs.CardOrder.{cellsBefore}
+
+abbrev pub offset : ℕ
+offset = 2796202
+
+unfoldable pub wordOf : ℤ → ℕ
+wordOf q = natAbs (q +ℤ pos offset)
+
+-- where layer k's words begin, and room for all: the planes of all layers have at most 44 cells
+unfoldable pub blockStart : Shape → ℕ → ℕ
+blockStart sh k = total (λ j. cellPoints * planeCells sh j) k
+
+abbrev pub wordsMost : ℕ
+wordsMost = 11264
+
+-- the words of the coefficients qs stand in ws, and past the last block the word of 0
+pub record Gathered (sh : Shape) (qs : List ℤ) (ws : List ℕ) : Type 0 where
+  pub long : length ws ≡ wordsMost
+  pub word : (k i : ℕ) → k < layers sh → i < cellPoints * planeCells sh k
+      → getD ws (blockStart sh k + i) 0 ≡ cond (ltb i (layerSize sh k)) (wordOf (at qs (pointOf sh k i))) offset
+  pub rest : (i : ℕ) → blockStart sh (layers sh) ≤ i → i < wordsMost → getD ws i 0 ≡ offset
+
+-- a bit, turned over at an odd place
+unfoldable pub turned : ℕ → ℕ → ℕ
+turned p b = cond (eqb (p % 2) 0) b (1 - b)
+
+-- digit p of word i
+unfoldable pub digitIn : List ℕ → ℕ → ℕ → ℕ
+digitIn ws p i = turned p (getD ws i 0 / 2 ^ p % 2)
+
+-- a plane of c cells at place p, from the words that begin at `start`
+unfoldable pub flatPlane : List ℕ → ℕ → ℕ → ℕ → List ℕ
+flatPlane ws start c p = tabulate (cellBytes * c) (λ b. packed 8 (λ j. digitIn ws p (start + 8 * b + j)))
+
+-- the planes at place p of the layers before k, and those at the places below n: as `atPlace` and `downFrom`, from the words
+unfoldable pub flatPlace : Shape → List ℕ → List ℕ → ℕ → ℕ → List ℕ
+flatPlace sh planes ws p zero = []
+flatPlace sh planes ws p (suc k) =
+    flatPlace sh planes ws p k ++ cond (ltb p (getD planes k 0)) (flatPlane ws (blockStart sh k) (planeCells sh k) p) []
+
+unfoldable pub flatDown : Shape → List ℕ → List ℕ → ℕ → List ℕ
+flatDown sh planes ws zero = []
+flatDown sh planes ws (suc p) = flatPlace sh planes ws p (layers sh) ++ flatDown sh planes ws p
+
+-- the number of a word, and the fewest digits that hold those of n words from `start` on
+abbrev pub numberOf : ℕ → ℤ
+numberOf w = pos w -ℤ pos offset
+
+unfoldable pub countOf : List ℕ → ℕ → ℕ → ℕ
+countOf ws start n = firstFrom (λ d. allBelow (λ i. holds d (numberOf (getD ws (start + i) 0))) n) placesMost 0
+
+unfoldable pub countAt : Shape → List ℕ → ℕ → ℕ
+countAt sh ws k = cond (ltb k (layers sh)) (countOf ws (blockStart sh k) (layerSize sh k)) 0
+
+-- ---- words that are read: digit p is bit p itself
+-- the numbers of one layer's words, at its points' places
+unfoldable pub spreadOver : Shape → ℕ → List ℕ → ℕ → List ℤ → List ℤ
+spreadOver sh k ws start qs =
+    tabulate (length qs) (λ p. cond (inLayer sh k p) (value (bitsOf 32 (getD ws (start + placeIn sh k p) 0))) (at qs p))
+
+-- those of all words
+unfoldable pub spreadAll : Shape → List ℕ → List ℤ
+spreadAll sh ws =
+    tabulate (points sh) (λ p.
+    let k = ownLayer sh p in
+    value (bitsOf 32 (getD ws (blockStart sh k + placeIn sh k p) 0)))
+
+-- bit i of the bytes from `from` on
+unfoldable pub bitAt : List ℕ → ℕ → ℕ → ℕ
+bitAt bs from i = getD bs (from + i / 8) 0 / 2 ^ (i % 8) % 2
+
+-- the words with a plane's bits added at place p, from `start` on
+unfoldable pub withPlane : List ℕ → ℕ → ℕ → ℕ → (ℕ → ℕ) → List ℕ
+withPlane ws start n p bit =
+    tabulate (length ws) (λ j. getD ws j 0 + cond (leb start j && ltb j (start + n)) (bit (j - start) * 2 ^ p) 0)
+
+-- a plane's bits at `from`, n points of c cells: no spare bit, and a 1 where it is the top plane
+unfoldable pub fineAt : List ℕ → ℕ → ℕ → ℕ → Bool → Bool
+fineAt bs from n c top =
+    allBelow (λ i. ltb i n || eqb (bitAt bs from i) 0) (cellPoints * c) && (not top || not (allBelow (λ i. eqb (bitAt bs from i) 0) n))
+
+-- is the plane at place p one of the `want` top ones of `count`?
+unfoldable pub asked : ℕ → ℕ → ℕ → Bool
+asked count want p = ltb p count && leb count (p + want)
+
+-- one slot: is its plane fine or not asked for, and the words after it
+unfoldable pub slotFine : List ℕ → ℕ → ℕ → ℕ → ℕ → ℕ → ℕ → Bool
+slotFine bs from n c count want p = not (asked count want p) || fineAt bs from n c (eqb (suc p) count)
+
+unfoldable pub slotWords : List ℕ → ℕ → ℕ → ℕ → ℕ → ℕ → ℕ → List ℕ → ℕ → List ℕ
+slotWords bs from n c count want p ws start =
+    cond (asked count want p && slotFine bs from n c count want p) (withPlane ws start (cellPoints * c) p (bitAt bs from)) ws
+
+-- every plane of the plan is in the bytes
+abbrev pub AllThere : Header → ℕ → List ℕ → (ℕ → ℕ) → Type 0
+AllThere h long bs plan =
+    (k p : ℕ) → k < layers (h .shape) → loaded h long bs plan k p ≡ true
+    → long + cellBytes * (cellsBefore h k p + planeCells (h .shape) k) ≤ length bs
+
+abbrev pub loadedAs : Header → ℕ → List ℕ → (ℕ → ℕ) → Loaded
+loadedAs h long bs plan =
+    cond (ltb (firstBad h long bs plan) (slots h long bs plan)) (Bad (slotLayer h long bs plan (firstBad h long bs plan))) Fine
+
+-- the words of a reading: of layer k's point i, the bits of the planes loaded, each at its place
+unfoldable pub wordRead : Header → ℕ → List ℕ → (ℕ → ℕ) → ℕ → ℕ → ℕ
+wordRead h long bs plan k i = total (λ p. cond (loaded h long bs plan k p) (bitOf h long bs k p i * 2 ^ p) 0) placesMost
+
+pub record Read (h : Header) (long : ℕ) (bs : List ℕ) (plan : ℕ → ℕ) (ws : List ℕ) : Type 0 where
+  pub long-is : length ws ≡ wordsMost
+  pub small : (i : ℕ) → getD ws i 0 < 2 ^ placesMost
+  pub word : (k i : ℕ) → k < layers (h .shape) → i < layerSize (h .shape) k → getD ws (blockStart (h .shape) k + i) 0 ≡ wordRead h long bs plan k i

@@ -1,0 +1,33 @@
+// The card: writing a sheet, reading it with a plan, showing what is there, and refining a reading by a plane.
+mod loading;
+mod putting;
+mod reading;
+mod refining;
+mod words;
+mod writing;
+
+use header::Plan;
+use header::Refusal;
+pub use reading::read;
+pub use reading::show;
+pub use refining::refine;
+pub use writing::write;
+
+// What writing answers: the card's length; 0 beside a refusal.
+pub struct Written {
+    pub refusal: Refusal,
+    pub length: usize,
+}
+
+// What reading and refining answer: the plan reached and its figure; 0 beside a refusal.
+pub struct Reached {
+    pub refusal: Refusal,
+    pub plan: Plan,
+    pub figure: u64,
+}
+
+// Whether the planes of a plan are fine, or the layer of the first one that is not.
+pub enum Loaded {
+    Fine,
+    Bad(usize),
+}

@@ -1,0 +1,196 @@
+// Refining a reading: the next plane of one layer.
+ghost use mathlib.Core.Path.{_≡_};
+ghost use mathlib.Core.Bool.{true};
+ghost use Prim.Native.Nat.{ℕ, suc, _+_, _*_, _-_, _/_, _<_, _≤_};
+ghost use lib.ListN.{length};
+ghost use Rattle.digits.specs.Digits.{holds, weight};
+ghost use Rattle.layers.specs.Limits.{layersMost};
+ghost use Rattle.layers.specs.Lists.{at};
+ghost use Rattle.layers.specs.Sheet as S;
+ghost use Rattle.header.specs.Header as Hd;
+ghost use Rattle.header.specs.Plan as N;
+ghost use Rattle.header.specs.Opening as O;
+ghost use Rattle.header.specs.CardOrder as K;
+ghost use Rattle.card.specs.Reading as R;
+ghost use Rattle.card.specs.Refining as F;
+ghost use Rattle.card.specs.Words as W;
+use crate::Reached;
+use crate::loading::is_fine;
+use crate::reading::refused;
+use header::Header;
+use header::Plan;
+use header::Refusal;
+use layers::Shape;
+
+// Is every coefficient one of 23 digits?
+fn all_held(coefficients: &[i32]) -> bool
+    ensures { λ r. ⌜ r ≡ F.allHeld (now (coefficients .entry)) ⌝ }
+{
+    for j in 0..coefficients.len() {
+        let q = coefficients[j];
+        if q < -2796202 {
+            return false;
+        }
+        if 5592405 < q {
+            return false;
+        }
+    }
+    true
+}
+
+// (-2) to the power p.
+fn weight_of(p: u64) -> i32
+    requires { ⌜ p < Hd.placesMost ⌝ }
+    ensures { λ r. ⌜ r ≡ weight p ⌝ }
+{
+    let size = (1u32 << p) as i32;
+    if p % 2 == 0 { size } else { 0 - size }
+}
+
+// Bit i of the bytes from `from` on.
+fn bit_at(bytes: &[u8], from: usize, i: usize) -> u8
+    requires { ⌜ from + i / 8 < length (now bytes) ⌝ }
+    ensures { λ r. ⌜ r ≡ W.bitAt (now (bytes .entry)) from i ⌝ }
+{
+    (bytes[from + i / 8] >> (i % 8)) % 2
+}
+
+// The digits of a layer's plane at place p, which stands at `from`, added to its points' coefficients.
+fn add_digits(
+    bytes: &[u8],
+    from: usize,
+    shape: Shape,
+    layer: usize,
+    p: u64,
+    coefficients: &mut [i32],
+)
+    requires { ⌜ (S.accepted shape ≡ true) × (layer < S.layers shape) × (p < Hd.placesMost) ⌝ }
+    requires { ⌜ (length (now coefficients) ≡ S.points shape) × (F.allHeld (now coefficients) ≡ true) × (from + Hd.cellBytes * Hd.planeCells shape layer ≤ length (now bytes)) ⌝ }
+    ensures { λ _. ⌜ now (coefficients .exit) ≡ F.coefsPlus shape layer p (W.bitAt (now (bytes .entry)) from) (now (coefficients .entry)) ⌝ }
+{
+    let g = layers::layer_grid(shape, layer);
+    let w = weight_of(p);
+    let mut i: usize = 0;
+    let mut row = g.row;
+    while row < shape.rows {
+        let mut col = g.col;
+        while col < shape.cols {
+            let at = row * shape.cols + col;
+            let d = bit_at(bytes, from, i) as i32;
+            coefficients[at] = coefficients[at] + d * w;
+            i += 1;
+            col += g.right;
+        }
+        row += g.down;
+    }
+}
+
+// A reading with one plane more of a layer, the plan and the layer being fine.
+fn refine_plane(
+    bytes: &[u8],
+    header: Header,
+    at: usize,
+    plan: Plan,
+    layer: usize,
+    coefficients: &mut [i32],
+    values: &mut [i64],
+) -> Reached
+    requires { ⌜ (O.right header ≡ true) × (at ≤ length (now bytes)) × (layer < S.layers (header .shape)) × (R.goodLengths (now coefficients) (now values) header ≡ true) ⌝ }
+    requires { ⌜ (N.firstOver (Hd.planesOf header) (N.loads plan) ≡ layersMost) × (N.loads plan layer < Hd.planesOf header layer) × (F.allHeld (now coefficients) ≡ true) ⌝ }
+    requires { ⌜ at + Hd.cellBytes * (K.cellsBefore header layer (Hd.planesOf header layer - suc (N.loads plan layer)) + Hd.planeCells (header .shape) layer) ≤ length (now bytes) ⌝ }
+    ensures { λ r. ⌜ R.told r (now (coefficients .exit)) (now (values .exit)) ≡ F.refinePlane (now (coefficients .entry)) (now (values .entry)) header at (now (bytes .entry)) plan layer (Hd.planesOf header layer - suc (N.loads plan layer)) ⌝ }
+{
+    let shape = header.shape;
+    let curve = header.curve;
+    let counts = header.planes;
+    let loaded = plan.planes;
+    let p = counts[layer] - loaded[layer] - 1;
+    let cells = header::plane_cells(shape, layer) as usize;
+    let from = at + 32 * header::cells_before(header, layer, p) as usize;
+    let n = layers::layer_size(shape, layer);
+    if !is_fine(bytes, from, n, cells, p + 1 == counts[layer]) {
+        return refused(Refusal::BadPlane(layer as u64));
+    }
+    add_digits(bytes, from, shape, layer, p, coefficients);
+    layers::rebuild(coefficients, shape, curve, header.step, values);
+    let reached = plan.with_plane(layer);
+    Reached {
+        refusal: Refusal::Accepted,
+        plan: reached,
+        figure: header::error_bound(header, reached),
+    }
+}
+
+// A card that has been opened, refined by a plane of a layer that may not be there.
+fn refine_opened(
+    bytes: &[u8],
+    header: Header,
+    at: usize,
+    plan: Plan,
+    layer: u64,
+    coefficients: &mut [i32],
+    values: &mut [i64],
+) -> Reached
+    requires { ⌜ (O.right header ≡ true) × (at ≤ length (now bytes)) ⌝ }
+    ensures { λ r. ⌜ R.told r (now (coefficients .exit)) (now (values .exit)) ≡ F.refineOpened (now (coefficients .entry)) (now (values .entry)) (now (bytes .entry)) header at plan layer ⌝ }
+{
+    let shape = header.shape;
+    let rows = shape.rows;
+    let cols = shape.cols;
+    let levels = shape.levels;
+    let points = rows * cols;
+    if coefficients.len() != points {
+        return refused(Refusal::BadLengths);
+    }
+    if values.len() != points {
+        return refused(Refusal::BadLengths);
+    }
+    let whole = header::whole_planes(header, bytes.len() - at);
+    let limit = whole.planes;
+    let wanted = plan.planes;
+    let place = header::first_over(limit, wanted);
+    if place < 13 {
+        return refused(Refusal::BadPlan(place as u64));
+    }
+    let last = (2 * levels) as u64;
+    if last < layer {
+        return refused(Refusal::BadPlan(layer));
+    }
+    let k = layer as usize;
+    if limit[k] <= wanted[k] {
+        return refused(Refusal::BadPlan(layer));
+    }
+    if !all_held(coefficients) {
+        return refused(Refusal::BadCoefficient);
+    }
+    refine_plane(bytes, header, at, plan, k, coefficients, values)
+}
+
+// Adds the next plane of one layer to a reading with a plan, and rebuilds all values. A refusal changes nothing.
+pub fn refine(
+    bytes: &[u8],
+    plan: Plan,
+    layer: u64,
+    coefficients: &mut [i32],
+    values: &mut [i64],
+) -> Reached
+    ensures { λ r. ⌜ R.told r (now (coefficients .exit)) (now (values .exit)) ≡ F.refining (now (coefficients .entry)) (now (values .entry)) (now (bytes .entry)) plan layer ⌝ }
+{
+    let opened = header::open(bytes);
+    let refusal = opened.refusal;
+    match refusal {
+        Refusal::Accepted => {
+            let header = opened.header;
+            refine_opened(
+                bytes,
+                header,
+                opened.length,
+                plan,
+                layer,
+                coefficients,
+                values,
+            )
+        }
+        _ => refused(refusal),
+    }
+}

@@ -1,0 +1,133 @@
+// Coefficients and words: gathered in layer order to be written, spread from it when they are read, and counted for the header.
+ghost use mathlib.Core.Path.{_≡_};
+ghost use mathlib.Core.Bool.{true};
+ghost use Prim.Native.Nat.{ℕ, _+_, _*_, _^_, _<_, _≤_};
+ghost use lib.ListN.{length, getD, replicate};
+ghost use lib.Seq.{sets};
+ghost use Rattle.digits.specs.Digits.{holds};
+ghost use Rattle.layers.specs.Limits.{layersMost};
+ghost use Rattle.layers.specs.Lists.{at, tabulate};
+ghost use Rattle.layers.specs.Sheet as S;
+ghost use Rattle.header.specs.Header as Hd;
+ghost use Rattle.card.specs.Planes as P;
+ghost use Rattle.card.specs.Words as W;
+use layers::Shape;
+
+const OFFSET: u32 = 2796202;
+
+// The word of a coefficient.
+fn word_of(q: i32) -> u32
+    requires { ⌜ holds Hd.placesMost q ≡ true ⌝ }
+    ensures { λ r. ⌜ r ≡ W.wordOf q ⌝ }
+{
+    (q + 2796202) as u32
+}
+
+// The words of one layer in row order, from `start` on.
+fn gather_layer(coefficients: &[i32], shape: Shape, layer: usize, words: &mut [u32], start: usize)
+    requires { ⌜ (S.accepted shape ≡ true) × (layer < S.layers shape) ⌝ }
+    requires { ⌜ (length (now coefficients) ≡ S.points shape) × ((p : ℕ) → holds Hd.placesMost (at (now coefficients) p) ≡ true) ⌝ }
+    requires { ⌜ start + S.layerSize shape layer ≤ length (now words) ⌝ }
+    ensures { λ _. ⌜ now (words .exit) ≡ sets (now (words .entry)) start (tabulate (S.layerSize shape layer) (λ i. W.wordOf (at (now (coefficients .entry)) (S.pointOf shape layer i)))) ⌝ }
+{
+    let g = layers::layer_grid(shape, layer);
+    let mut i = start;
+    let mut row = g.row;
+    while row < shape.rows {
+        let mut col = g.col;
+        while col < shape.cols {
+            words[i] = word_of(coefficients[row * shape.cols + col]);
+            i += 1;
+            col += g.right;
+        }
+        row += g.down;
+    }
+}
+
+// The words of all layers, each in whole cells; spare words stay as they are.
+pub(crate) fn gather(coefficients: &[i32], shape: Shape, words: &mut [u32])
+    requires { ⌜ S.accepted shape ≡ true ⌝ }
+    requires { ⌜ (length (now coefficients) ≡ S.points shape) × ((p : ℕ) → holds Hd.placesMost (at (now coefficients) p) ≡ true) ⌝ }
+    requires { ⌜ now words ≡ replicate W.wordsMost W.offset ⌝ }
+    ensures { λ _. ⌜ W.Gathered shape (now (coefficients .entry)) (now (words .exit)) ⌝ }
+{
+    let layers = 1 + 2 * shape.levels;
+    let mut start: usize = 0;
+    for k in 0..layers {
+        gather_layer(coefficients, shape, k, words, start);
+        start += 256 * header::plane_cells(shape, k) as usize;
+    }
+}
+
+// The fewest digits that hold the numbers of n words: those of the smallest and of the largest.
+fn count_of(words: &[u32], start: usize, n: usize) -> u64
+    requires { ⌜ (start + n ≤ length (now words)) × ((i : ℕ) → i < n → getD (now words) (start + i) 0 < 2 ^ Hd.placesMost) ⌝ }
+    ensures { λ r. ⌜ r ≡ W.countOf (now (words .entry)) start n ⌝ }
+{
+    let mut low = OFFSET;
+    let mut high = OFFSET;
+    for i in 0..n {
+        let word = words[start + i];
+        if word < low {
+            low = word;
+        }
+        if high < word {
+            high = word;
+        }
+    }
+    let below = digits::digits_needed(low as i32 - OFFSET as i32);
+    let above = digits::digits_needed(high as i32 - OFFSET as i32);
+    if below < above { above } else { below }
+}
+
+// The counts of the header: the fewest digits of each layer, 0 past the last.
+pub(crate) fn counts(words: &[u32], shape: Shape) -> [u64; 13]
+    requires { ⌜ S.accepted shape ≡ true ⌝ }
+    requires { ⌜ (length (now words) ≡ W.wordsMost) × ((i : ℕ) → getD (now words) i 0 < 2 ^ Hd.placesMost) ⌝ }
+    ensures { λ r. ⌜ r ≡ tabulate layersMost (W.countAt shape (now (words .entry))) ⌝ }
+{
+    let layers = 1 + 2 * shape.levels;
+    let mut planes = [0u64; 13];
+    let mut start: usize = 0;
+    for k in 0..layers {
+        planes[k] = count_of(words, start, layers::layer_size(shape, k));
+        start += 256 * header::plane_cells(shape, k) as usize;
+    }
+    planes
+}
+
+// The numbers of one layer's words, put at its points' places in the sheet.
+fn spread_layer(words: &[u32], start: usize, shape: Shape, layer: usize, coefficients: &mut [i32])
+    requires { ⌜ (S.accepted shape ≡ true) × (layer < S.layers shape) ⌝ }
+    requires { ⌜ (length (now coefficients) ≡ S.points shape) × (start + S.layerSize shape layer ≤ length (now words)) ⌝ }
+    requires { ⌜ ((i : ℕ) → getD (now words) i 0 < 2 ^ Hd.placesMost) ⌝ }
+    ensures { λ _. ⌜ now (coefficients .exit) ≡ W.spreadOver shape layer (now (words .entry)) start (now (coefficients .entry)) ⌝ }
+{
+    let g = layers::layer_grid(shape, layer);
+    let mut i = start;
+    let mut row = g.row;
+    while row < shape.rows {
+        let mut col = g.col;
+        while col < shape.cols {
+            coefficients[row * shape.cols + col] = digits::even_places(words[i]) as i32;
+            i += 1;
+            col += g.right;
+        }
+        row += g.down;
+    }
+}
+
+// The numbers of all words, each at its point's place.
+pub(crate) fn spread(words: &[u32], shape: Shape, coefficients: &mut [i32])
+    requires { ⌜ S.accepted shape ≡ true ⌝ }
+    requires { ⌜ (length (now coefficients) ≡ S.points shape) × (length (now words) ≡ W.wordsMost) ⌝ }
+    requires { ⌜ ((i : ℕ) → getD (now words) i 0 < 2 ^ Hd.placesMost) ⌝ }
+    ensures { λ _. ⌜ now (coefficients .exit) ≡ W.spreadAll shape (now (words .entry)) ⌝ }
+{
+    let layers = 1 + 2 * shape.levels;
+    let mut start: usize = 0;
+    for k in 0..layers {
+        spread_layer(words, start, shape, k, coefficients);
+        start += 256 * header::plane_cells(shape, k) as usize;
+    }
+}

@@ -1,0 +1,129 @@
+// Writing a sheet as a card.
+ghost use mathlib.Core.Path.{_≡_};
+ghost use mathlib.Core.Bool.{true};
+ghost use mathlib.Core.List.{_++_};
+ghost use Prim.Native.Nat.{ℕ, _+_, _*_, _<_, _≤_};
+ghost use lib.ListN.{length, take, drop, replicate};
+ghost use lib.Seq.{sets};
+ghost use Rattle.digits.specs.Digits.{holds};
+ghost use Rattle.layers.specs.Limits.{stepMost};
+ghost use Rattle.layers.specs.Lists.{at};
+ghost use Rattle.layers.specs.Sheet as S;
+ghost use Rattle.header.specs.Header as Hd;
+ghost use Rattle.card.specs.Planes as P;
+ghost use Rattle.card.specs.Words as W;
+ghost use Rattle.card.specs.Writing as Wr;
+use crate::Written;
+use crate::putting::put_body;
+use crate::words::counts;
+use crate::words::gather;
+use header::Header;
+use header::HeaderText;
+use header::Refusal;
+use layers::Curve;
+use layers::Quantized;
+use layers::Shape;
+
+fn refused(refusal: Refusal) -> Written
+    ensures { λ r. ⌜ (r .refusal ≡ refusal) × (r .length ≡ 0) ⌝ }
+{
+    Written { refusal, length: 0 }
+}
+
+// "R or C is 0 or their product above 8,192": sizes are bounded before they are multiplied.
+fn bad_size(rows: usize, cols: usize) -> bool
+    ensures { λ r. ⌜ r ≡ Wr.badSizes rows cols ⌝ }
+{
+    if rows == 0 || cols == 0 {
+        return true;
+    }
+    if 8192 < rows || 8192 < cols {
+        return true;
+    }
+    8192 < rows * cols
+}
+
+// Puts the header's text at the front of the output.
+fn put_text(text: HeaderText, output: &mut [u8])
+    requires { ⌜ (text .length ≤ Hd.textMost) × (text .length ≤ length (text .bytes)) × (text .length ≤ length (now output)) ⌝ }
+    ensures { λ _. ⌜ now (output .exit) ≡ sets (now (output .entry)) 0 (take (text .length) (text .bytes)) ⌝ }
+{
+    let bytes = text.bytes;
+    let n = text.length;
+    for i in 0..n {
+        output[i] = bytes[i];
+    }
+}
+
+// The card of the coefficients, at the front of the output; answers its length.
+fn write_card(
+    words: &mut [u32],
+    coefficients: &[i32],
+    shape: Shape,
+    curve: Curve,
+    step: u64,
+    output: &mut [u8],
+) -> usize
+    requires { ⌜ (S.accepted shape ≡ true) × (step ≤ stepMost) × (Wr.outputLeast ≤ length (now output)) ⌝ }
+    requires { ⌜ (length (now coefficients) ≡ S.points shape) × ((p : ℕ) → holds Hd.placesMost (at (now coefficients) p) ≡ true) ⌝ }
+    requires { ⌜ now words ≡ replicate W.wordsMost W.offset ⌝ }
+    ensures { λ r. ⌜ (r ≡ length (P.cardOf shape curve step (now (coefficients .entry)))) × (now (output .exit) ≡ P.cardOf shape curve step (now (coefficients .entry)) ++ drop (length (P.cardOf shape curve step (now (coefficients .entry)))) (now (output .entry))) ⌝ }
+{
+    gather(coefficients, shape, words);
+    let planes = counts(words, shape);
+    let cells = header::total_cells(shape, planes);
+    let text = header::header_text(Header {
+        shape,
+        curve,
+        step,
+        planes,
+        cells,
+    });
+    put_text(text, output);
+    put_body(words, shape, planes, output, text.length)
+}
+
+// Writes a sheet: coefficients, rebuilt values, and the card at the front of the output. A refusal changes nothing.
+pub fn write(
+    samples: &[i32],
+    rows: usize,
+    cols: usize,
+    levels: usize,
+    curve: Curve,
+    step: u64,
+    coefficients: &mut [i32],
+    values: &mut [i64],
+    output: &mut [u8],
+) -> Written
+    ensures { λ r. ⌜ Wr.told r (now (coefficients .exit)) (now (values .exit)) (now (output .exit)) ≡ Wr.writing (now (samples .entry)) (Wr.shapeOf rows cols levels) curve step (now (coefficients .entry)) (now (values .entry)) (now (output .entry)) ⌝ }
+{
+    if bad_size(rows, cols) {
+        return refused(Refusal::BadSize);
+    }
+    if 6 < levels || 65535 < step {
+        return refused(Refusal::BadSettings);
+    }
+    let points = rows * cols;
+    if samples.len() != points || coefficients.len() != points {
+        return refused(Refusal::BadLengths);
+    }
+    if values.len() != points || output.len() < 32768 {
+        return refused(Refusal::BadLengths);
+    }
+    let shape = Shape { rows, cols, levels };
+    match layers::quantize(samples, shape, curve, step, coefficients, values) {
+        Quantized::Refused => refused(Refusal::BadLengths),
+        Quantized::OutOfRange { row, col } => refused(Refusal::BadSample {
+            row: row as u64,
+            col: col as u64,
+        }),
+        Quantized::Done => {
+            let mut words = [2796202u32; 11264];
+            let length = write_card(&mut words, coefficients, shape, curve, step, output);
+            Written {
+                refusal: Refusal::Accepted,
+                length,
+            }
+        }
+    }
+}
