@@ -13,6 +13,15 @@ use crate::Shape;
 use crate::sheet::direction_of;
 use crate::sheet::spacing;
 
+// "A line is the lent sheet with a first point, a spacing and a count" (document 01). Its spacing is called its stride, since a layer has a
+// spacing too.
+pub struct Line<'a> {
+    pub values: &'a [i64],
+    pub start: usize,
+    pub stride: usize,
+    pub count: usize,
+}
+
 // Does the curve take four neighbours of place t on a line of n points?
 fn uses_four(curve: Curve, n: usize, t: usize, s: usize) -> bool
     requires { ⌜ (s ≤ 2 ^ levelsMost) × (t ≤ pointsMost) ⌝ }
@@ -88,6 +97,48 @@ fn predict_on(
     before
 }
 
+// The same for a line held as one value: a thin read, whose work is `predict_on`'s.
+fn along<'a>(line: Line<'a>, curve: Curve, t: usize, s: usize) -> i64
+    requires { ⌜ L.OnLine (now (line .values)) (line .start) (line .stride) (line .count) t s ⌝ }
+    ensures { λ y. ⌜ y ≡ P.line curve (now (line .entry .values)) (line .entry .start) (line .entry .stride) (line .entry .count) t s ⌝ }
+{
+    predict_on(
+        line.values,
+        curve,
+        line.start,
+        line.stride,
+        line.count,
+        t,
+        s,
+    )
+}
+
+// The same with plain parameters, so that callers hold no line themselves.
+fn predict_along(
+    values: &[i64],
+    curve: Curve,
+    start: usize,
+    stride: usize,
+    n: usize,
+    t: usize,
+    s: usize,
+) -> i64
+    requires { ⌜ L.OnLine (now values) start stride n t s ⌝ }
+    ensures { λ y. ⌜ y ≡ P.line curve (now (values .entry)) start stride n t s ⌝ }
+{
+    along(
+        Line {
+            values,
+            start,
+            stride,
+            count: n,
+        },
+        curve,
+        t,
+        s,
+    )
+}
+
 // What is predicted at a point of a layer.
 pub(crate) fn predict(
     values: &[i64],
@@ -106,8 +157,8 @@ pub(crate) fn predict(
     let s = spacing(shape.levels, layer);
     match dir {
         Direction::Anchor => 0,
-        Direction::Across => predict_on(values, curve, row * cols, 1, cols, col, s),
-        Direction::Down => predict_on(values, curve, col, cols, rows, row, s),
+        Direction::Across => predict_along(values, curve, row * cols, 1, cols, col, s),
+        Direction::Down => predict_along(values, curve, col, cols, rows, row, s),
     }
 }
 

@@ -1,4 +1,4 @@
--- The direction and the spacing are those that the calls give; the point's row or column is then a line as `predict_on` wants it.
+-- The direction and the spacing are those that the calls give; the point's row or column is then a line as `predict_along` wants it.
 use mathlib.Core.Path.{_≡_, _∙_, sym, ap}
 use Prim.Native.Nat.{ℕ, _*_}
 use native.Mathlib.Omega.{arith}
@@ -27,14 +27,14 @@ enum-told c = search needs
 enum-told-2 : tie.Need-enum-told-2
 enum-told-2 c = search needs
 
-mul-predict-on : tie.Need-mul-predict-on
-mul-predict-on c =
+mul-predict-along : tie.Need-mul-predict-along
+mul-predict-along c =
     let a = c .before .before .before .before in
     let ok = accepted-yes (a .args .shape) (a .pre .0 .shape) in
     omega (arith, across-fits ok (a .args .row) (a .pre .0 .row))
 
-predict-on-requires : tie.Need-predict-on-requires
-predict-on-requires c κs =
+predict-along-requires : tie.Need-predict-along-requires
+predict-along-requires c κs =
     let a = c .before .before .before .before in
     let e = sym (c .before .before .before .direction-of .ensures) ∙ c .enum-told2 .given .1 in
     rw (c .before .before .spacing .ensures) (along-row (a .args .shape) (a .args .curve) (a .args .layer) (a .args .row) (a .args .col) (a .pre .0) (now (a .args .values)) (a .pre .1) (a .pre .2) e)
@@ -42,8 +42,8 @@ predict-on-requires c κs =
 enum-told-3 : tie.Need-enum-told-3
 enum-told-3 c = search needs
 
-predict-on-requires-2 : tie.Need-predict-on-requires-2
-predict-on-requires-2 c κs =
+predict-along-requires-2 : tie.Need-predict-along-requires-2
+predict-along-requires-2 c κs =
     let a = c .before .before .before .before in
     let e = sym (c .before .before .before .direction-of .ensures) ∙ c .enum-told3 .given .1 in
     rw (c .before .before .spacing .ensures) (along-column (a .args .shape) (a .args .curve) (a .args .layer) (a .args .row) (a .args .col) (a .pre .0) (now (a .args .values)) (a .pre .1) (a .pre .2) e)
@@ -65,7 +65,7 @@ returns-2 c =
     let d = c .before in
     let a = d .before .before .before .before in
     let e = sym (d .before .before .before .direction-of .ensures) ∙ d .enum-told2 .given .1 in
-    result-is (c .predict-on .ok) (c .predict-on .ensures)
+    result-is (c .predict-along .ok) (c .predict-along .ensures)
     ∙ ap (λ (s : ℕ). line (a .args .curve) (now (a .args .values)) (a .args .row * a .args .shape .cols) 1 (a .args .shape .cols) (a .args .col) s) (d .before .before .spacing .ensures)
     ∙ by-direction a (sym e)
 
@@ -74,7 +74,7 @@ returns-3 c =
     let d = c .before in
     let a = d .before .before .before .before in
     let e = sym (d .before .before .before .direction-of .ensures) ∙ d .enum-told3 .given .1 in
-    result-is (c .predict-on2 .ok) (c .predict-on2 .ensures)
+    result-is (c .predict-along2 .ok) (c .predict-along2 .ensures)
     ∙ ap (λ (s : ℕ). line (a .args .curve) (now (a .args .values)) (a .args .col) (a .args .shape .cols) (a .args .shape .rows) (a .args .row) s) (d .before .before .spacing .ensures)
     ∙ by-direction a (sym e)
 
@@ -86,10 +86,10 @@ predict-spec =
     spacing-requires
     enum-told
     enum-told-2
-    mul-predict-on
-    predict-on-requires
+    mul-predict-along
+    predict-along-requires
     enum-told-3
-    predict-on-requires-2
+    predict-along-requires-2
     returns
     returns-2
     returns-3)
