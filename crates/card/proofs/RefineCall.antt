@@ -56,9 +56,6 @@ module _ (h : Header) (r : right h ≡ true) (plan : Plan) (k : ℕ) (hk : k < l
   few = counts-few (right-yes h r) k layer-few
 
   -- where it stands, by the place that the code works with
-  pub place-is : planesOf h k - loads plan k - 1 ≡ Next
-  place-is = omega arith
-
   pub before-is : (q : ℕ) → q ≡ Next → cellsBeforeIn h k q ≡ cellsBefore h k Next
   unfolding cellsBeforeIn
   before-is q e =

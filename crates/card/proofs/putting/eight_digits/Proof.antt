@@ -1,5 +1,5 @@
 -- At an even place the digits are the bits; at an odd one every bit is turned over, which takes the byte from 255.
-use mathlib.Core.Path.{_≡_, _∙_}
+use mathlib.Core.Path.{_≡_}
 use Prim.Native.Nat.{_%_}
 use native.Mathlib.Omega.{arith}
 use denote.Ref.{now}
@@ -17,7 +17,7 @@ sub-result c = search needs
 returns : tie.Need-returns
 returns c = let s = c .before .before .before in
     let even : s .args .p % 2 ≡ 0 = omega arith in
-    c .before .eight-bits .ensures ∙ digits-even (now (s .args .words)) (s .args .p) (s .args .first) even
+    omega (arith, c .before .eight-bits .ensures, digits-even (now (s .args .words)) (s .args .p) (s .args .first) even)
 
 returns-2 : tie.Need-returns-2
 returns-2 c = let s = c .before .before .before in

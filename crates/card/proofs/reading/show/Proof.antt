@@ -1,10 +1,10 @@
 -- By what `open` answers: any refusal is passed on, and a card that was opened has a right header within its bytes, so it can be read on with all its whole planes.
 use mathlib.Core.Path.{ap, _∙_}
-use Prim.Native.Nat.{_-_}
+use native.Mathlib.Omega.{arith}
 use borrow.Author.Needs.{needs}
 use denote.Ref.{now}
-use lib.ListN.{length}
 use Rattle.header.specs.declared.Plan.{Plan}
+use Rattle.header.specs.CardOrder.{wholePlan}
 use Rattle.card.specs.declared.Reached.{Reached}
 use Rattle.card.specs.Reading.{told, readOpened}
 use Rattle.card.proofs.ReadCall.{refusing, whole-is, show-refused, header-right, header-here, show-on}
@@ -27,7 +27,7 @@ sub-whole-planes : tie.Need-sub-whole-planes
 sub-whole-planes c =
     let t = c .before in
     let o = L t in
-    header-here (now (S o .args .bytes)) (o .«open» .result) (o .«open» .ensures) (t .enum-told .given .1)
+    omega (arith, header-here (now (S o .args .bytes)) (o .«open» .result) (o .«open» .ensures) (t .enum-told .given .1))
 
 whole-planes-requires : tie.Need-whole-planes-requires
 whole-planes-requires c κs = search needs
@@ -60,7 +60,7 @@ returns c =
     let at = o .«open» .result .length in
     r .read-opened .ensures
     ∙ ap (λ (p : Plan). readOpened (now (s .args .coefficients)) (now (s .args .values)) bs h at p)
-    (w .whole-planes .ensures ∙ whole-is h (header-right bs (o .«open» .result) (o .«open» .ensures) (t .enum-told .given .1)) (length bs - at))
+    (w .whole-planes .ensures ∙ whole-is h (header-right bs (o .«open» .result) (o .«open» .ensures) (t .enum-told .given .1)) _ ∙ ap (wholePlan h) (omega arith))
     ∙ show-on bs (o .«open» .result) (o .«open» .ensures) (t .enum-told .given .1) (now (s .args .coefficients)) (now (s .args .values))
 
 returns-2 : tie.Need-returns-2

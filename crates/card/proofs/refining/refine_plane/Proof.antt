@@ -18,7 +18,7 @@ use Rattle.header.proofs.Rightness.{right-yes}
 use Rattle.header.proofs.Total.{plane-room, plane-most}
 use Rattle.card.specs.declared.Reached.{Reached}
 use Rattle.card.specs.Reading.{told, fine}
-use Rattle.card.proofs.RefineCall.{layer-few, few, place-is, before-is, refine-done, refine-bad, fine-is}
+use Rattle.card.proofs.RefineCall.{layer-few, few, before-is, refine-done, refine-bad, fine-is}
 use Rattle.card.proofs.refining.refine_plane.Statement.{statement}
 use Rattle.card.proofs.refining.refine_plane.Tie as tie
 
@@ -42,8 +42,7 @@ before-at c =
     let h = s .args .header in
     let k = s .args .layer in
     c .cells-before .ensures
-    ∙ before-is h (s .pre .0 .0) (s .args .plan) k (s .pre .0 .2) (s .pre .1 .0 .1) (planesOf h k - loads (s .args .plan) k - 1)
-    (place-is h (s .pre .0 .0) (s .args .plan) k (s .pre .0 .2) (s .pre .1 .0 .1))
+    ∙ before-is h (s .pre .0 .0) (s .args .plan) k (s .pre .0 .2) (s .pre .1 .0 .1) _ (omega arith)
 
 from-is : (c : tie.After-layer-size) → (let s = S c in s .args .at + 32 * c .before .cells-before .result ≡ s .args .at + cellBytes * cellsBefore (s .args .header) (s .args .layer) (Next s))
 from-is c = let s = S c in ap (λ (n : ℕ). s .args .at + 32 * n) (before-at (c .before))
@@ -67,11 +66,11 @@ fine-here f =
     let h = s .args .header in
     let k = s .args .layer in
     fine-is h (s .pre .0 .0) (s .args .plan) k (s .pre .0 .2) (s .pre .1 .0 .1) (s .args .at) (now (s .args .bytes)) (f .is-fine .result)
-    (planesOf h k - loads (s .args .plan) k - 1)
+    _
     (s .args .at + 32 * z .before .cells-before .result)
     (z .layer-size .result)
     (z .before .before .plane-cells .result)
-    (place-is h (s .pre .0 .0) (s .args .plan) k (s .pre .0 .2) (s .pre .1 .0 .1))
+    (omega arith)
     (from-is z)
     (size z)
     (cells z)
@@ -148,9 +147,8 @@ add-digits-requires c κs =
     let s = S z in
     let n = points (s .args .header .shape) in
     let a = eqb (length (now (s .args .coefficients))) n in
-    let b = eqb (length (now (s .args .values))) n in
-    let low : planesOf (s .args .header) (s .args .layer) - loads (s .args .plan) (s .args .layer) - 1 < placesMost = omega (arith, counts-low s, s .pre .1 .0 .1) in (
-      (right-yes (s .args .header) (s .pre .0 .0) .shape, s .pre .0 .2, low),
+    let b = eqb (length (now (s .args .values))) n in (
+      (right-yes (s .args .header) (s .pre .0 .0) .shape, s .pre .0 .2, omega (arith, counts-low s, s .pre .1 .0 .1)),
       (
         eqb-true (length (now (s .args .coefficients))) n (and-left a b (s .pre .0 .3)),
         s .pre .1 .0 .2,
@@ -188,9 +186,9 @@ returns-2 c =
     _
     _
     _
-    (planesOf h k - loads (s .args .plan) k - 1)
+    _
     (s .args .at + 32 * z .before .cells-before .result)
-    (place-is h (s .pre .0 .0) (s .args .plan) k (s .pre .0 .2) (s .pre .1 .0 .1))
+    (omega arith)
     (from-is z)
     (d .add-digits .ensures)
     (b .rebuild .ensures .1)

@@ -1,9 +1,10 @@
 -- By the tests in turn: each that answers at once is one of the definition's, a size above the most points making the product so; after them the product is small enough to be taken.
 use mathlib.Core.Logic.{⊎-elim}
-use mathlib.Core.Path.{sym}
-use Prim.Native.Nat.{_≤_}
+use mathlib.Core.Path.{sym, ap, _∙_}
+use Prim.Native.Nat.{ℕ, _*_, _≤_}
 use native.Mathlib.Nat.{mul-le-mul}
 use native.Mathlib.Omega.{arith}
+use lib.Dec.{ltb}
 use borrow.Author.Tests.{eqb-true, eqb-false, ltb-true, ltb-false}
 use Rattle.card.proofs.BadSizes.{no-rows, no-cols, too-tall, too-wide, left-over}
 use Rattle.card.proofs.writing.bad_size.Statement.{statement}
@@ -27,7 +28,8 @@ mul-result c = let s = c .before .before .before .before in
 returns-3 : tie.Need-returns-3
 returns-3 c = let e = c .before .before in
     let s = e .before .before in
-    sym (left-over (s .args .rows) (s .args .cols) (e .before .if1 .left) (eqb-false _ _ (e .if2 .left)))
+    ap (λ (n : ℕ). ltb n (s .args .rows * s .args .cols)) (omega arith)
+    ∙ sym (left-over (s .args .rows) (s .args .cols) (e .before .if1 .left) (eqb-false _ _ (e .if2 .left)))
 
 pub bad-size-spec : {M : Type 1} → statement M
 bad-size-spec = tie.close (tie.spec returns returns-2 mul-result returns-3)

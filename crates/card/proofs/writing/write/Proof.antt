@@ -1,17 +1,19 @@
 -- By the tests in turn, each of which is one of the definition's. After them quantizing is not refused; what it answers is what writing answers, and where it is done its coefficients are within 23 digits, so that their card is written.
 use mathlib.Core.Logic.{⊎-elim}
-use mathlib.Core.Path.{_≡_, refl, sym, _∙_}
+use mathlib.Core.Path.{_≡_, sym, ap, _∙_}
 use mathlib.Core.Bool.{false}
 use mathlib.Core.List.{List}
 use Prim.Native.Nat.{ℕ, _*_, _≤_}
 use native.Mathlib.Omega.{arith}
+use lib.Dec.{ltb}
 use lib.IntN.{ℤ}
-use lib.ListN.{length}
+use lib.ListN.{length, replicate}
 use borrow.Author.Needs.{needs}
 use borrow.Author.Tests.{not-true, not-false, eqb-true, eqb-false, ltb-true, ltb-false}
 use denote.Ref.{now}
 use Rattle.layers.specs.declared.Shape.{Shape}
 use Rattle.layers.specs.Limits.{levelsMost, stepMost}
+use Rattle.card.specs.Words.{wordsMost}
 use Rattle.card.specs.Writing.{outputLeast, badSizes, shapeOf}
 use Rattle.card.proofs.BadSizes.{good-sizes}
 use Rattle.card.proofs.Writes as W
@@ -66,7 +68,7 @@ values-long : (d : tie.Else7) → length (Vs (A7 d)) ≡ A7 d .args .rows * A7 d
 values-long d = d .before .if6 .left
 
 output-long : (d : tie.Else7) → outputLeast ≤ length (Out (A7 d))
-output-long d = ltb-false _ _ (d .if7 .left)
+output-long d = ltb-false _ _ (ap (ltb (length (Out (A7 d)))) (omega arith) ∙ d .if7 .left)
 
 abbrev D : tie.After-quantize → tie.Else7
 D q = q .before .before .before
@@ -120,7 +122,7 @@ returns-4 c = let j = c .before in
     let a = A3 d in
     let n = sizes (d .before .before) in
     W.bad-lengths (Xs a) (Sh a) (a .args .curve) (a .args .step) (Qs a) (Vs a) (Out a) n (levels-few d) (step-few d)
-    (⊎-elim (λ w. W.short-values (Xs a) (Sh a) (a .args .curve) (a .args .step) (Qs a) (Vs a) (Out a) n (levels-few d) (step-few d) (w .taken)) (λ w. W.short-output (Xs a) (Sh a) (a .args .curve) (a .args .step) (Qs a) (Vs a) (Out a) n (levels-few d) (step-few d) (ltb-true _ _ (w .1 .taken))) (j .if6 .came))
+    (⊎-elim (λ w. W.short-values (Xs a) (Sh a) (a .args .curve) (a .args .step) (Qs a) (Vs a) (Out a) n (levels-few d) (step-few d) (w .taken)) (λ w. W.short-output (Xs a) (Sh a) (a .args .curve) (a .args .step) (Qs a) (Vs a) (Out a) n (levels-few d) (step-few d) (ltb-true _ _ (ap (ltb (length (Out a))) (omega arith) ∙ w .1 .taken))) (j .if6 .came))
     (c .refused4 .result) (c .refused4 .ensures .0) (c .refused4 .ensures .1)
 
 quantize-requires : tie.Need-quantize-requires
@@ -152,7 +154,7 @@ write-card-requires c κs = let t = c .before .before .before in
     let n = sizes (d .before .before .before .before .before .before) in
     let three = d .before .before .before .before in (
       (W.shape-accepted (Xs a) (Sh a) (a .args .curve) (a .args .step) (Qs a) (Vs a) (Out a) n (levels-few three) (step-few three), step-few three, output-long d),
-      (W.coefs-held (Xs a) (Sh a) (a .args .curve) (a .args .step) (Qs a) (Vs a) (Out a) (sizes (d .before .before .before .before .before .before)) (levels-few (d .before .before .before .before)) (step-few (d .before .before .before .before)) (samples-long (d .before .before)) (coefficients-long (d .before .before)) (values-long d) (output-long d) _ (sym (t .enum-told2 .given .1) ∙ q .quantize .ensures .0) (q .quantize .ensures .1), refl),
+      (W.coefs-held (Xs a) (Sh a) (a .args .curve) (a .args .step) (Qs a) (Vs a) (Out a) (sizes (d .before .before .before .before .before .before)) (levels-few (d .before .before .before .before)) (step-few (d .before .before .before .before)) (samples-long (d .before .before)) (coefficients-long (d .before .before)) (values-long d) (output-long d) _ (sym (t .enum-told2 .given .1) ∙ q .quantize .ensures .0) (q .quantize .ensures .1), ap (replicate wordsMost) (omega arith)),
     )
 
 same-length : tie.Need-same-length
