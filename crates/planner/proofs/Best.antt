@@ -1,0 +1,71 @@
+-- The plan that planning finds is the best, and the only one: it is kept of all plans, starting from one that is allowed (all planes lose nothing, no planes take no cells), and of two different plans one is better.
+use mathlib.Core.Bool.{Bool, true}
+use mathlib.Core.List.{List}
+use mathlib.Core.Path.{_≡_}
+use Prim.Native.Nat.{ℕ, zero, suc, _≤_}
+use native.Mathlib.Nat.{le-refl}
+use native.Mathlib.Omega.{arith}
+use borrow.Author.Tests.{le-leb}
+use lib.ListN.{length, replicate, length-replicate}
+use Rattle.layers.specs.Limits.{layersMost}
+use Rattle.layers.specs.Sheet.{layers}
+use Rattle.header.specs.declared.Header.{Header}
+use Rattle.header.specs.Header.{planesOf, cellsOf}
+use Rattle.header.proofs.Figures.{figure-all}
+use Rattle.header.proofs.Totals.{total-none}
+use Rattle.planner.specs.Planning.{counts, PlanOf, plansOf, better, bestOf, Best, cellsIn, figureIn, withinLimit, withinCells, betterByLimit, betterByCells, bestByLimit, bestByCells}
+use Rattle.planner.proofs.Orders.{better-strict, better-apart}
+use Rattle.planner.proofs.AllPlans.{plans-has, plans-only}
+use Rattle.planner.proofs.KeepsBest.{kept-has, kept-least}
+
+module _ (h : Header) (allowed : List ℕ → Bool) (first second : List ℕ → ℕ) where
+  -- what is kept of all plans
+  pub kept-best : (ns : List ℕ) → PlanOf h ns → allowed ns ≡ true → Best h allowed (better first second) (bestOf allowed (better first second) ns (plansOf h))
+  kept-best ns p a =
+      record {
+        plan = kept-has allowed (better first second) (PlanOf h) ns (plansOf h) p (λ ms x _. plans-only h ms x);
+        meets = kept-has allowed (better first second) (λ ms. allowed ms ≡ true) ns (plansOf h) a (λ _ _ y. y);
+        least = λ ms q. kept-least allowed (better first second) (better-strict first second) ns (plansOf h) ms (plans-has h ms q);
+      }
+
+  pub best-unique : (ns ms : List ℕ) → Best h allowed (better first second) ns → Best h allowed (better first second) ms → ns ≡ ms
+  best-unique ns ms a b =
+      better-apart first second ns ms (a .plan .long) (b .plan .long)
+      (b .least ns (a .plan) (a .meets)) (a .least ms (b .plan) (b .meets))
+
+-- ---- by a limit
+module _ (h : Header) (long : length (h .planes) ≡ layersMost) (limit : ℕ) (above : h .step ≤ limit) where
+  all-plan : PlanOf h (h .planes)
+  all-plan = record { long = long; within = λ k. le-refl (planesOf h k) }
+
+  pub by-limit-best : Best h (withinLimit h limit) (betterByLimit h) (bestByLimit h limit)
+  unfolding bestByLimit
+  by-limit-best =
+      kept-best h (withinLimit h limit) (cellsIn h) (figureIn h) (h .planes) all-plan
+      (le-leb (figureIn h (h .planes)) limit (omega (arith, figure-all h)))
+
+  pub by-limit-only : (ns : List ℕ) → Best h (withinLimit h limit) (betterByLimit h) ns → ns ≡ bestByLimit h limit
+  by-limit-only ns b = best-unique h (withinLimit h limit) (cellsIn h) (figureIn h) ns (bestByLimit h limit) b by-limit-best
+
+-- ---- in so many cells
+zeros : (n k : ℕ) → counts (replicate n 0) k ≡ 0
+zeros zero k = omega arith
+zeros (suc n) zero = omega arith
+zeros (suc n) (suc k) = zeros n k
+
+module _ (h : Header) (most : ℕ) where
+  none-plan : PlanOf h (replicate layersMost 0)
+  none-plan = record { long = length-replicate {A = ℕ} layersMost 0; within = λ k. omega (arith, zeros layersMost k) }
+
+  none-cells : cellsIn h (replicate layersMost 0) ≡ 0
+  unfolding cellsOf
+  none-cells = total-none _ (layers (h .shape)) (λ k _. rw (zeros layersMost k) (omega arith))
+
+  pub by-cells-best : Best h (withinCells h most) (betterByCells h) (bestByCells h most)
+  unfolding bestByCells
+  by-cells-best =
+      kept-best h (withinCells h most) (figureIn h) (cellsIn h) (replicate layersMost 0) none-plan
+      (le-leb (cellsIn h (replicate layersMost 0)) most (omega (arith, none-cells)))
+
+  pub by-cells-only : (ns : List ℕ) → Best h (withinCells h most) (betterByCells h) ns → ns ≡ bestByCells h most
+  by-cells-only ns b = best-unique h (withinCells h most) (figureIn h) (cellsIn h) ns (bestByCells h most) b by-cells-best

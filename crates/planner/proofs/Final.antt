@@ -1,0 +1,156 @@
+-- What the code's proofs call: a plan that is read off a header's table is the one that planning is defined to find. By the law no plan is better, the bridge says so of the card's cells and figure, and only one plan is best.
+use mathlib.Core.Bool.{true, false}
+use mathlib.Core.List.{List}
+use mathlib.Core.Path.{_≡_, ap, _∙_}
+use Prim.Native.Nat.{ℕ, _+_, _≤_, _<_, zero-le}
+use native.Mathlib.Nat.{le-refl}
+use native.Mathlib.Decide.{decLt}
+use native.Mathlib.Omega.{arith}
+use borrow.Author.Tests.{le-leb, leb-true}
+use lib.ListN.{length, List·getD-eq-default}
+use Rattle.layers.specs.Limits.{layersMost}
+use Rattle.header.specs.declared.Header.{Header}
+use Rattle.header.specs.Header.{planesOf}
+use Rattle.header.specs.Opening.{right}
+use Rattle.header.proofs.Figures.{figure-all}
+use Rattle.header.proofs.Rightness.{Right, right-yes}
+use Rattle.planner.specs.Planning.{counts, PlanOf, Best, cellsIn, figureIn, withinLimit, withinCells, betterByLimit, betterByCells, bestByLimit, bestByCells}
+use Rattle.planner.specs.Table.{layersOf, cells, standing, reach, none, best, rowLength, FirstWithin, LeastWithin, Room, RowEnd, Traced, Found}
+use Rattle.planner.proofs.RisingCarry.{header-rising}
+use Rattle.planner.proofs.Bridge.{cells-same, figure-same, below-none}
+use Rattle.planner.proofs.Entries.{no-cells, reach-all, reach-most}
+use Rattle.planner.proofs.Orders.{not-better}
+use Rattle.planner.proofs.Law.{NoWorse, lower, traced-plan, traced-cells, traced-standing, least-cells, least-standing}
+use Rattle.planner.proofs.Best.{by-limit-only, by-cells-only}
+
+module _ (h : Header) (ok : right h ≡ true) where
+  abbrev entry : ℕ → ℕ
+  entry = best (layersOf h) layersMost
+
+  abbrev taken : List ℕ → ℕ
+  taken ns = cells (layersOf h) (counts ns) layersMost
+
+  abbrev left : List ℕ → ℕ
+  left ns = standing (layersOf h) (counts ns) layersMost
+
+  is-right : Right h
+  is-right = right-yes h ok
+
+  -- ---- some entry is reached
+  -- all planes stand at 0
+  full-reached : entry (reach (layersOf h) layersMost) ≡ 0
+  full-reached =
+      omega (
+        arith,
+        lower (layersOf h) (header-rising h) (planesOf h) layersMost (λ k _. le-refl (planesOf h k)),
+        figure-same is-right (planesOf h),
+        figure-all h,
+      )
+
+  limit-within : (room size : ℕ) → FirstWithin entry room size → entry size ≤ room
+  limit-within room size f =
+      f .within (reach (layersOf h) layersMost) (omega (arith, reach-most h ok layersMost (le-refl layersMost))) (omega (arith, full-reached))
+
+  pub limit-reached : (limit room size : ℕ) → Room (h .step) limit room → FirstWithin (best (layersOf h) layersMost) room size → best (layersOf h) layersMost size < none
+  limit-reached limit room size m f = omega (arith, m .below, limit-within room size f)
+
+  -- no planes take no cells
+  pub cells-reached : (top size : ℕ) → LeastWithin (best (layersOf h) layersMost) top size → best (layersOf h) layersMost size < none
+  cells-reached top size f =
+      omega (
+        arith,
+        f .least 0 zero-le,
+        ap entry (no-cells (layersOf h) layersMost),
+        lower (layersOf h) (header-rising h) (λ _. 0) layersMost (λ _ _. zero-le),
+        below-none is-right (λ _. 0),
+      )
+
+  -- ---- what the law says of the card's cells and figure
+  module _ (ns ms : List ℕ) where
+    same-taken : cellsIn h ms ≡ cellsIn h ns → taken ms ≡ taken ns
+    same-taken e = omega (arith, cells-same is-right ms, cells-same is-right ns)
+
+    same-left : figureIn h ms ≡ figureIn h ns → left ms ≡ left ns
+    same-left e = omega (arith, figure-same is-right (counts ms), figure-same is-right (counts ns))
+
+    none-by-limit : NoWorse (λ n. cells (layersOf h) n layersMost) (λ n. standing (layersOf h) n layersMost) layersMost (counts ns) (counts ms)
+        → betterByLimit h ms ns ≡ false
+    none-by-limit w =
+        not-better (cellsIn h) (figureIn h) ms ns
+        (omega (arith, w .one, cells-same is-right ms, cells-same is-right ns))
+        (λ e. omega (arith, w .two (same-taken e), figure-same is-right (counts ms), figure-same is-right (counts ns)))
+        (λ e d. w .tie (same-taken e) (same-left d))
+
+    none-by-cells : NoWorse (λ n. standing (layersOf h) n layersMost) (λ n. cells (layersOf h) n layersMost) layersMost (counts ns) (counts ms)
+        → betterByCells h ms ns ≡ false
+    none-by-cells w =
+        not-better (figureIn h) (cellsIn h) ms ns
+        (omega (arith, w .one, figure-same is-right (counts ms), figure-same is-right (counts ns)))
+        (λ e. omega (arith, w .two (same-left e), cells-same is-right ms, cells-same is-right ns))
+        (λ e d. w .tie (same-left e) (same-taken d))
+
+  -- ---- a plan that is read off
+  module _ (size : ℕ) (ns : List ℕ) (traced : Traced (layersOf h) layersMost size (counts ns)) where
+    size-own : size ≡ cellsIn h ns
+    size-own = omega (arith, traced-cells (layersOf h) (header-rising h) (counts ns) layersMost size traced, cells-same is-right ns)
+
+    figure-own : h .step + entry size ≡ figureIn h ns
+    figure-own = omega (arith, traced-standing (layersOf h) (header-rising h) (counts ns) layersMost size traced, figure-same is-right (counts ns))
+
+    found-as : (asked : List ℕ) → ns ≡ asked → Found h asked ns size (h .step + entry size)
+    found-as asked e =
+        record {
+          same = e;
+          size-is = size-own ∙ ap (cellsIn h) e;
+          figure-is = figure-own ∙ ap (figureIn h) e;
+        }
+
+    module _ (long : length ns ≡ layersMost) where
+      plan-of : PlanOf h ns
+      plan-of =
+          record {
+            long = long;
+            within = λ k. elim (decLt k layersMost) [
+              | yes l ↦ traced-plan (layersOf h) (header-rising h) (counts ns) layersMost size traced k l
+              | no l ↦ omega (arith, List·getD-eq-default ns 0 {n = k} (omega arith))
+            ];
+          }
+
+      limit-best : (limit room : ℕ) → Room (h .step) limit room → FirstWithin entry room size → Best h (withinLimit h limit) (betterByLimit h) ns
+      limit-best limit room m f =
+          record {
+            plan = plan-of;
+            meets = le-leb (figureIn h ns) limit (omega (arith, figure-own, limit-within room size f, m .meets));
+            least = λ ms p a.
+                none-by-limit ns ms
+                (least-cells (layersOf h) (header-rising h) layersMost size (counts ns) traced room (f .above) (counts ms) (λ k _. p .within k)
+                (m .most (left ms) (omega (arith, figure-same is-right (counts ms), leb-true (figureIn h ms) limit a)) (below-none is-right (counts ms))));
+          }
+
+      cells-best : (most top : ℕ) → RowEnd most top → LeastWithin entry top size → Best h (withinCells h most) (betterByCells h) ns
+      cells-best most top m f =
+          record {
+            plan = plan-of;
+            meets = le-leb (cellsIn h ns) most (omega (arith, size-own, f .inside, m .meets));
+            least = λ ms p a.
+                none-by-cells ns ms
+                (least-standing (layersOf h) (header-rising h) layersMost size (counts ns) traced top (f .before) (f .least) (counts ms) (λ k _. p .within k)
+                (m .last (taken ms) (omega (arith, cells-same is-right ms, leb-true (cellsIn h ms) most a)) (row-has ms p)));
+          }
+        where
+          row-has : (ms : List ℕ) → PlanOf h ms → taken ms < rowLength
+          row-has ms p = omega (arith, reach-all (layersOf h) (counts ms) (p .within) layersMost, reach-most h ok layersMost (le-refl layersMost))
+
+  -- ---- THE ANSWERS
+  module _ (long : length (h .planes) ≡ layersMost) where
+    pub by-limit : (limit room size : ℕ) (ns : List ℕ) → h .step ≤ limit → Room (h .step) limit room → FirstWithin (best (layersOf h) layersMost) room size
+        → Traced (layersOf h) layersMost size (counts ns) → length ns ≡ layersMost
+        → Found h (bestByLimit h limit) ns size (h .step + best (layersOf h) layersMost size)
+    by-limit limit room size ns l m f t ln =
+        found-as size ns t (bestByLimit h limit) (by-limit-only h long limit l ns (limit-best size ns t ln limit room m f))
+
+    pub by-cells : (most top size : ℕ) (ns : List ℕ) → RowEnd most top → LeastWithin (best (layersOf h) layersMost) top size
+        → Traced (layersOf h) layersMost size (counts ns) → length ns ≡ layersMost
+        → Found h (bestByCells h most) ns size (h .step + best (layersOf h) layersMost size)
+    by-cells most top size ns m f t ln =
+        found-as size ns t (bestByCells h most) (by-cells-only h most ns (cells-best size ns t ln most top m f))

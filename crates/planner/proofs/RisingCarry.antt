@@ -1,0 +1,54 @@
+-- All that the table's law asks of the layers: a carry rises strictly. So it takes nothing away and tells different numbers apart. A header's carry rises, since 5m/4 does.
+use mathlib.Core.Bool.{Bool, true, false, cond}
+use mathlib.Core.Path.{_≡_, ap}
+use Prim.Native.Nat.{ℕ, zero, suc, _<_, _≤_, zero-le}
+use native.Mathlib.Nat.{le-refl}
+use native.Mathlib.Decide.{decLt}
+use native.Mathlib.Omega.{arith}
+use lib.Dec.{eqb}
+use Rattle.integers.specs.Floor.{ceilDiv}
+use Rattle.layers.specs.declared.Curve.{Curve}
+use Rattle.layers.specs.declared.Curve.the-variants.{Linear, Cubic}
+use Rattle.layers.specs.Calls.{sizing}
+use Rattle.layers.specs.Carry.{carried, carry}
+use Rattle.header.specs.declared.Header.{Header}
+use Rattle.planner.specs.Table.{Layers, layersOf, carryOf}
+
+abbrev pub Rising : Layers → Type 0
+Rising L = (k a b : ℕ) → a < b → L .carry k a < L .carry k b
+
+module _ (L : Layers) (rising : Rising L) where
+  pub carry-up : (k a : ℕ) → a ≤ L .carry k a
+  carry-up k zero = zero-le
+  carry-up k (suc a) = omega (arith, carry-up k a, rising k a (suc a) (le-refl (suc a)))
+
+  pub carry-mono : (k a b : ℕ) → a ≤ b → L .carry k a ≤ L .carry k b
+  carry-mono k a b h =
+      elim (decLt a b) [
+        | yes l ↦ omega (arith, rising k a b l)
+        | no l ↦ let e : a ≡ b = omega arith in omega (arith, ap (L .carry k) e)
+      ]
+
+  pub carry-one : (k a b : ℕ) → L .carry k a ≡ L .carry k b → a ≡ b
+  carry-one k a b e =
+      elim (decLt a b) [
+        | yes l ↦ omega (arith, rising k a b l)
+        | no l ↦ elim (decLt b a) [
+          | yes m ↦ omega (arith, rising k b a m)
+          | no m ↦ omega arith
+        ]
+      ]
+
+-- ---- a header's
+pub carried-rising : (curve : Curve) (a b : ℕ) → a < b → carried curve a < carried curve b
+unfolding carried ceilDiv
+carried-rising Linear a b h = h
+carried-rising Cubic a b h = omega arith
+
+pub header-rising : (h : Header) → Rising (layersOf h)
+unfolding carryOf
+header-rising h k a b l = step (eqb (sizing (h .shape) k) 0)
+  where
+    step : (t : Bool) → cond t a (carry (h .shape) (h .curve) k a) < cond t b (carry (h .shape) (h .curve) k b)
+    step true = l
+    step false = carried-rising (h .curve) a b l

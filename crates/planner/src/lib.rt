@@ -1,0 +1,64 @@
+// The planner: the best plan of a card by a limit on its figure, or in so many cells.
+ghost use mathlib.Core.Path.{_≡_};
+ghost use Rattle.header.specs.Refusals as R;
+ghost use Rattle.planner.specs.Planning as N;
+
+mod searching;
+mod table;
+
+use header::Plan;
+use header::Refusal;
+use searching::search_by_cells;
+use searching::search_by_limit;
+
+// What planning answers: a plan, its cells and its figure; 0 beside a refusal.
+pub struct Planned {
+    pub refusal: Refusal,
+    pub plan: Plan,
+    pub cells: u64,
+    pub figure: u64,
+}
+
+fn refused(refusal: Refusal) -> Planned
+    ensures { λ r. ⌜ N.told r ≡ N.no (R.detailsOf refusal) ⌝ }
+{
+    Planned {
+        refusal,
+        plan: Plan { planes: [0; 13] },
+        cells: 0,
+        figure: 0,
+    }
+}
+
+// The plan with the fewest cells whose figure is at most the limit.
+pub fn plan_by_limit(bytes: &[u8], limit: u64) -> Planned
+    ensures { λ r. ⌜ N.told r ≡ N.byLimit (now (bytes .entry)) limit ⌝ }
+{
+    let opened = header::open(bytes);
+    let refusal = opened.refusal;
+    match refusal {
+        Refusal::Accepted => {
+            let header = opened.header;
+            if limit < header.step {
+                return refused(Refusal::LimitBelowStep);
+            }
+            search_by_limit(header, limit)
+        }
+        _ => refused(refusal),
+    }
+}
+
+// The plan with the smallest figure in at most so many cells.
+pub fn plan_by_cells(bytes: &[u8], cells: u64) -> Planned
+    ensures { λ r. ⌜ N.told r ≡ N.byCells (now (bytes .entry)) cells ⌝ }
+{
+    let opened = header::open(bytes);
+    let refusal = opened.refusal;
+    match refusal {
+        Refusal::Accepted => {
+            let header = opened.header;
+            search_by_cells(header, cells)
+        }
+        _ => refused(refusal),
+    }
+}
