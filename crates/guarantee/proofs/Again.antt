@@ -1,0 +1,109 @@
+-- Demand 2, its first half: what is read with all planes are coefficients whose counts and planes are the card's own, and writing the values rebuilt from them makes these coefficients again; so the header is the same, and so are the bytes behind it.
+use mathlib.Core.List.{List, _++_}
+use mathlib.Core.Path.{_≡_, sym, ap, _∙_, subst}
+use Prim.Native.Nat.{ℕ}
+use lib.IntN.{ℤ}
+use lib.ListN.{length, drop}
+use Rattle.integers.specs.Distance.{Within}
+use Rattle.layers.specs.Limits.{sampleMost}
+use Rattle.layers.specs.Lists.{at}
+use Rattle.layers.specs.Layering.{Layering, Proper, layering, rebuilt, written, coefs}
+use Rattle.layers.specs.Loops.{Samples}
+use Rattle.layers.proofs.Law.{length-rebuilt, write-back, coefs-back}
+use Rattle.layers.proofs.SheetLaw.{sheet-proper}
+use Rattle.header.specs.declared.Header.{Header}
+use Rattle.header.specs.declared.Plan.{Plan}
+use Rattle.header.specs.Header.{planesOf, headerText}
+use Rattle.header.specs.Opening.{opening}
+use Rattle.header.specs.Refusals.{refusal}
+use Rattle.header.proofs.Opens.{Opens}
+use Rattle.header.proofs.Rightness.{Right}
+use Rattle.card.specs.Planes.{body, cardOf}
+use Rattle.card.specs.Reading.{Reading, coefsRead}
+use Rattle.guarantee.specs.WrittenBack.{headerIn, readAll, Readable, Room, WritesBack, WrittenBack}
+use Rattle.guarantee.proofs.AllPlanes.{header-again, read-carries}
+use Rattle.guarantee.proofs.Bytes.{carried-body}
+use Rattle.guarantee.proofs.Coefficients.{coefs-long}
+use Rattle.guarantee.proofs.Taken.{opens-right, right-header, Passed, readAs, passed-reads, reading-passed}
+use Rattle.guarantee.proofs.Written.{passes-written, samples-pass}
+
+module _ (bs : List ℕ) (qs vs : List ℤ) (card : Readable bs qs vs) where
+  abbrev h : Header
+  h = headerIn bs
+
+  abbrev long : ℕ
+  long = opening bs .long
+
+  -- all its planes
+  abbrev plan : Plan
+  plan = record { planes = h .planes }
+
+  abbrev sheet : Layering
+  sheet = layering (h .shape) (h .curve)
+
+  -- what was read
+  abbrev coefficients : List ℤ
+  coefficients = coefsRead h long bs (planesOf h)
+
+  abbrev values : List ℤ
+  values = rebuilt sheet (h .step) coefficients
+
+  passed : Passed h long bs plan qs vs
+  passed = reading-passed qs vs bs plan (card .taken)
+
+  gives : readAll qs vs bs ≡ readAs h long bs plan
+  gives = passed-reads passed
+
+  opens : Opens bs h long
+  opens = opens-right bs (passed .opens)
+
+  is-right : Right h
+  is-right = right-header bs (passed .opens)
+
+  -- the card of the coefficients read is the card
+  card-again : cardOf (h .shape) (h .curve) (h .step) coefficients ≡ bs
+  unfolding cardOf
+  card-again =
+      ap (λ (g : Header). headerText g ++ body g coefficients) (header-again is-right (passed .taken) (opens .counts-long))
+      ∙ ap (λ (l : List ℕ). headerText h ++ l) (carried-body is-right (read-carries is-right (passed .taken)) (card .bytes) (card .whole))
+      ∙ sym (opens .text-is)
+
+  proper : Proper sheet
+  proper = sheet-proper (h .shape) (is-right .shape) (h .curve)
+
+  -- writing the values makes the coefficients and the values again
+  coefficients-again : coefs sheet (h .step) values ≡ coefficients
+  coefficients-again = coefs-back sheet proper (h .step) coefficients (coefs-long h long bs (planesOf h))
+
+  values-again : written sheet (h .step) values ≡ values
+  values-again = write-back sheet proper (h .step) coefficients
+
+  samples : Samples (h .shape) (h .step) values
+  samples =
+      record {
+        shape = is-right .shape;
+        step = is-right .step;
+        long = length-rebuilt sheet (h .step) coefficients;
+        small = λ p _. subst (λ (r : Reading). Within sampleMost (at (r .values) p)) gives (card .range p);
+      }
+
+  -- and so the card
+  made : (qs′ vs′ : List ℤ) (out : List ℕ) → Room (length vs) qs′ vs′ out → WritesBack bs (readAs h long bs plan) qs′ vs′ out
+  made qs′ vs′ out room =
+      let text : cardOf (h .shape) (h .curve) (h .step) (coefs sheet (h .step) values) ≡ bs =
+      ap (cardOf (h .shape) (h .curve) (h .step)) coefficients-again ∙ card-again in
+      passes-written values (h .shape) (h .curve) (h .step) qs′ vs′ out
+      (samples-pass values (h .shape) (h .curve) (h .step) qs′ vs′ out samples (subst (λ (n : ℕ). Room n qs′ vs′ out) (passed .slices .values) room))
+      ∙ (λ i. record {
+        refused = refusal 0 0 0;
+        long = length (text i);
+        coefficients = coefficients-again i;
+        values = values-again i;
+        output = text i ++ drop (length (text i)) out;
+      })
+
+  back : (qs′ vs′ : List ℤ) (out : List ℕ) → Room (length vs) qs′ vs′ out → WritesBack bs (readAll qs vs bs) qs′ vs′ out
+  back qs′ vs′ out room = subst (λ (r : Reading). WritesBack bs r qs′ vs′ out) (sym gives) (made qs′ vs′ out room)
+
+pub written-back : WrittenBack
+written-back = record { same = back }

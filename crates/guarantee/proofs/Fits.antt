@@ -1,0 +1,56 @@
+-- Coefficients that a card holds: they have at most 23 digits, and their shape and step are accepted. So their header is a right one, and the card is as long as it says. Those of samples are such, by the range of quantizing.
+use mathlib.Core.Bool.{true}
+use mathlib.Core.List.{List}
+use mathlib.Core.Path.{_≡_}
+use Prim.Native.Nat.{ℕ, _+_, _*_, _<_, _≤_}
+use native.Mathlib.Omega.{arith}
+use lib.IntN.{ℤ}
+use lib.ListN.{length}
+use Rattle.digits.specs.Digits.{holds}
+use Rattle.digits.proofs.Range.{holds-by, range-23}
+use Rattle.layers.specs.declared.Shape.{Shape}
+use Rattle.layers.specs.declared.Curve.{Curve}
+use Rattle.layers.specs.Limits.{layersMost, stepMost}
+use Rattle.layers.specs.Lists.{at}
+use Rattle.layers.specs.Sheet.{accepted, points}
+use Rattle.layers.specs.Layering.{layering, coefs}
+use Rattle.layers.specs.Loops.{Samples}
+use Rattle.layers.proofs.Lists.{length-tabulate}
+use Rattle.layers.proofs.Range.{coefs-reach}
+use Rattle.header.specs.Header.{placesMost, cellBytes, headerText}
+use Rattle.header.proofs.Rightness.{Right}
+use Rattle.card.specs.Planes.{planesFor, countsFor, headerFor, cardOf}
+use Rattle.card.proofs.Cards.{header-right, card-length}
+use Rattle.card.proofs.BodyOrder.{body-length}
+use Rattle.guarantee.proofs.Loaded.{few-planes}
+
+pub record Fits (sh : Shape) (e : ℕ) (qs : List ℤ) : Type 0 where
+  pub shape : accepted sh ≡ true
+  pub step : e ≤ stepMost
+  pub digits : (p : ℕ) → p < points sh → holds placesMost (at qs p) ≡ true
+
+-- where the header ends
+abbrev pub end : Shape → Curve → ℕ → List ℤ → ℕ
+end sh curve e qs = length (headerText (headerFor sh curve e qs))
+
+module _ {sh : Shape} {e : ℕ} {qs : List ℤ} (c : Fits sh e qs) (curve : Curve) where
+  pub fits-right : Right (headerFor sh curve e qs)
+  fits-right = header-right sh (c .shape) qs curve e (c .step)
+
+  pub fits-full : length (headerFor sh curve e qs .planes) ≡ layersMost
+  unfolding countsFor
+  fits-full = length-tabulate layersMost (planesFor sh qs)
+
+  pub fits-long : length (cardOf sh curve e qs) ≡ end sh curve e qs + cellBytes * headerFor sh curve e qs .cells
+  fits-long = omega (arith, card-length sh (c .shape) qs curve e (c .step), body-length (headerFor sh curve e qs) qs (few-planes fits-right))
+
+-- "23 digits .. enough for every accepted sheet"
+pub samples-fit : {sh : Shape} {e : ℕ} {g : List ℤ} → Samples sh e g → (curve : Curve) → Fits sh e (coefs (layering sh curve) e g)
+samples-fit s curve =
+    record {
+      shape = s .shape;
+      step = s .step;
+      digits = λ p h.
+          let reach = coefs-reach s curve p h in
+          holds-by placesMost _ (record { low = omega (arith, reach .0, range-23); high = omega (arith, reach .1, range-23) });
+    }

@@ -1,0 +1,25 @@
+mod AllPlanes
+mod Bytes
+mod Carried
+mod Cells
+mod Coefficients
+mod Cut
+mod Digits
+mod Enough
+mod Fine
+mod Fits
+mod Loaded
+mod Near
+mod OneMore
+mod Plans
+mod RowsCalls
+mod RowsOpened
+mod Shows
+mod Step
+mod Taken
+mod Tests
+mod Written
+pub mod Again
+pub mod Holds
+pub mod Refined
+pub mod Rows

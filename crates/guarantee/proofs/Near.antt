@@ -1,0 +1,83 @@
+-- How far what is read is from what was written, where the planes loaded have the bits written. A coefficient has its own digits with 0 for the missing ones below, so it is near by the loss of those; and the error law of a sheet carries that to the values.
+use mathlib.Core.Bool.{true}
+use mathlib.Core.List.{List}
+use mathlib.Core.Path.{_≡_, refl, sym, _∙_, subst}
+use Prim.Native.Nat.{ℕ, _-_, _<_}
+use native.Mathlib.Omega.{arith}
+use lib.IntN.{ℤ}
+use Rattle.integers.specs.Distance.{Near}
+use Rattle.digits.specs.Digits.{digitsOf, loss}
+use Rattle.digits.proofs.Range.{Holds}
+use Rattle.digits.proofs.Expansion.{digits-length, digits-at, digits-near}
+use Rattle.layers.specs.declared.Shape.{Shape}
+use Rattle.layers.specs.declared.Curve.{Curve}
+use Rattle.layers.specs.Lists.{at}
+use Rattle.layers.specs.Sheet.{points, layers, inLayer, layerSize, pointOf, placeIn}
+use Rattle.layers.specs.Layering.{layering, coefs}
+use Rattle.layers.specs.Loops.{Samples}
+use Rattle.layers.proofs.Places.{place-in, point-in, point-on, point-place}
+use Rattle.layers.proofs.Standing.{sheet-samples}
+use Rattle.header.specs.declared.Header.{Header}
+use Rattle.header.specs.declared.Plan.{Plan}
+use Rattle.header.specs.Header.{planesOf}
+use Rattle.header.specs.Plan.{loads}
+use Rattle.header.specs.Figure.{figureOf}
+use Rattle.header.proofs.Rightness.{layers-few}
+use Rattle.card.specs.Planes.{headerFor}
+use Rattle.card.specs.Reading.{coefRead, coefsRead}
+use Rattle.guarantee.specs.Guarantee.{Gives}
+use Rattle.guarantee.proofs.Coefficients.{bits, length-bits, bit-at, coef-is, coef-at}
+use Rattle.guarantee.proofs.Carried.{Carries, carried-digit}
+use Rattle.guarantee.proofs.Digits.{truncate-same}
+use Rattle.guarantee.proofs.Enough.{planes-hold, counts-at}
+use Rattle.guarantee.proofs.Fits.{Fits, fits-right, samples-fit}
+use Rattle.guarantee.proofs.Taken.{readAs}
+
+module _ {sh : Shape} {e : ℕ} {qs : List ℤ} (c : Fits sh e qs) (curve : Curve) {long : ℕ} {bs : List ℕ} {plan : Plan}
+    (carries : Carries (headerFor sh curve e qs) long bs qs plan) where
+  abbrev h : Header
+  h = headerFor sh curve e qs
+
+  -- how many planes of layer k are missing
+  abbrev lost : ℕ → ℕ
+  lost k = planesOf h k - loads plan k
+
+  -- the point at place i of layer k
+  module _ (k i : ℕ) (hk : k < layers sh) (hi : i < layerSize sh k) where
+    abbrev own : ℤ
+    own = at qs (pointOf sh k i)
+
+    held : Holds (planesOf h k) own
+    held =
+        subst (λ (m : ℕ). Holds m own) (sym (counts-at sh qs k (omega (arith, layers-few (fits-right c curve)))))
+        (planes-hold sh qs k (c .digits) hk (pointOf sh k i) (point-on sh k i hi) (point-in sh k i hi))
+
+    coef-near : Near (loss (lost k)) own (coefRead h long bs (loads plan) k i)
+    coef-near =
+        rw (
+          coef-is h long bs k i (loads plan),
+          truncate-same (lost k) (bits h long bs k i) (digitsOf (planesOf h k) own) (length-bits h long bs k i ∙ sym (digits-length (planesOf h k) own)) (λ p low l.
+              let named : p < planesOf h k = omega (arith, length-bits h long bs k i) in
+              bit-at h long bs k i p named ∙ carried-digit carries k p hk named (omega arith) i hi ∙ sym (digits-at (planesOf h k) p own named)),
+        )
+        (digits-near (planesOf h k) (lost k) own held (omega arith))
+
+  -- EVERY POINT of layer k
+  coefs-near : (k p : ℕ) → k < layers sh → p < points sh → inLayer sh k p ≡ true → Near (loss (lost k)) (at qs p) (at (coefsRead h long bs (loads plan)) p)
+  coefs-near k p hk hp m =
+      rw (coef-at h long bs (c .shape) k hk (loads plan) p hp m)
+      (subst (λ (j : ℕ). Near (loss (lost k)) (at qs j) (coefRead h long bs (loads plan) k (placeIn sh k p))) (point-place sh k p hp m)
+      (coef-near k (placeIn sh k p) hk (place-in sh k p hp m)))
+
+-- THE VALUES are near the samples by the plan's figure
+module _ {sh : Shape} {e : ℕ} {g : List ℤ} (x : Samples sh e g) (curve : Curve) where
+  abbrev q : List ℤ
+  q = coefs (layering sh curve) e g
+
+  abbrev head : Header
+  head = headerFor sh curve e q
+
+  pub values-near : {long : ℕ} {bs : List ℕ} {plan : Plan} → Carries head long bs q plan → Gives sh g (figureOf head (loads plan)) (readAs head long bs plan)
+  unfolding figureOf
+  values-near {plan = plan} carries =
+      record { taken = refl; near = sheet-samples sh (x .shape) curve e (λ k. loss (planesOf head k - loads plan k)) g _ (coefs-near (samples-fit x curve) curve carries) }

@@ -1,0 +1,43 @@
+-- Demand 2, second half, by induction on the list: each refinement leaves what reading with some plan that it takes leaves, and reading with that plan answers by the card alone, whatever stood in its slices.
+use mathlib.Core.List.{List, [], _∷_}
+use mathlib.Core.Path.{_≡_, sym, ap, _∙_, subst}
+use Prim.Native.Nat.{ℕ}
+use lib.IntN.{ℤ}
+use lib.ListN.{length, length-replicate}
+use Rattle.layers.specs.Limits.{layersMost}
+use Rattle.header.specs.declared.Header.{Header}
+use Rattle.header.specs.Opening.{opening}
+use Rattle.header.proofs.HeaderLines.{accepting}
+use Rattle.card.specs.Reading.{Reading, reading, noPlan}
+use Rattle.card.specs.Refining.{refining}
+use Rattle.guarantee.specs.Refinements.{Refinements, refineOnce, refineAll}
+use Rattle.guarantee.proofs.Step.{Reached, step}
+use Rattle.guarantee.proofs.Taken.{right-header, passed-reads, reading-passed}
+
+module _ (bs : List ℕ) {h : Header} {long : ℕ} (opens : opening bs ≡ accepting h long) where
+  one-kept : {r : Reading} → Reached h long bs r → (k : ℕ) → Reached h long bs (refineOnce bs r k)
+  unfolding refining
+  one-kept s k =
+      subst (λ (r : Reading). Reached h long bs (refineOnce bs r k)) (sym (s .same))
+      (rw opens (step h long bs (right-header bs opens) (s .places) (s .taken) k))
+
+  all-kept : (ks : List ℕ) {r : Reading} → Reached h long bs r → Reached h long bs (refineAll bs ks r)
+  unfolding refineAll
+  all-kept [] s = s
+  all-kept (k ∷ ks) s = all-kept ks (one-kept s k)
+
+-- and reading with the plan reached leaves the same
+same-reading : (bs ks : List ℕ) (qs vs qs′ vs′ : List ℤ) → reading qs vs bs noPlan .refused .number ≡ 0 → length qs′ ≡ length qs → length vs′ ≡ length vs
+    → refineAll bs ks (reading qs vs bs noPlan) ≡ reading qs′ vs′ bs (refineAll bs ks (reading qs vs bs noPlan) .plan)
+same-reading bs ks qs vs qs′ vs′ zero lq lv =
+    let p = reading-passed qs vs bs noPlan zero in
+    let end = all-kept bs (p .opens) ks (record { plan = noPlan; places = length-replicate {A = ℕ} layersMost 0; taken = p .taken; same = passed-reads p }) in
+    let again = passed-reads (record {
+      opens = p .opens;
+      slices = record { coefficients = lq ∙ p .slices .coefficients; values = lv ∙ p .slices .values };
+      taken = end .taken;
+    }) in
+    end .same ∙ sym (ap (λ (r : Reading). reading qs′ vs′ bs (r .plan)) (end .same) ∙ again)
+
+pub refinements : Refinements
+refinements = record { same = same-reading }

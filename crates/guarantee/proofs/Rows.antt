@@ -1,0 +1,51 @@
+-- Document 01's bench rows, gathered: what the calls come to is computed. Digits and roundings stand among the worked examples of their crates.
+use mathlib.Core.Path.{refl}
+use lib.ListN.{take}
+use Rattle.integers.specs.Floor.{floorDiv, ceilDiv}
+use Rattle.digits.specs.Digits.{value, firstFrom, loss}
+use Rattle.digits.proofs.Examples as E
+use Rattle.layers.specs.Lists.{tabulate, count, total}
+use Rattle.layers.specs.Sheet.{spacing, inLayer, layerSize, placeIn}
+use Rattle.layers.specs.Prediction.{linear, line, predictedAt, width, coefficientOf, rebuiltFrom}
+use Rattle.layers.specs.Layering.{lastIn, pointBy, layerBy, valuesBy, alongside, rebuilt, written, coefs}
+use Rattle.layers.specs.Carry.{carried, standing}
+use Rattle.layers.proofs.Worked.{cubic-down, carried-twice}
+use Rattle.header.specs.Header.{planeCells, cellsOf, asciiFrom}
+use Rattle.header.specs.Plan.{firstOver}
+use Rattle.header.specs.CardOrder.{cellsBefore, isWhole, whole}
+use Rattle.header.specs.Figure.{figureOf}
+use Rattle.card.specs.Planes.{allBelow}
+use Rattle.card.specs.Reading.{bitOf, clean, hasOne, fine, badSlot, firstBad, coefRead, coefsRead}
+use Rattle.planner.specs.Planning.{withUpTo, eachUpTo, listsUpTo, plansOf, before, better, bestOf, bestByLimit, bestByCells}
+use Rattle.guarantee.specs.Bench.{card, Bench}
+use Rattle.guarantee.proofs.RowsOpened.{openings}
+use Rattle.guarantee.proofs.RowsCalls as C
+
+pub bench : Bench
+unfolding
+    coefs written alongside rebuilt valuesBy layerBy tabulate pointBy predictedAt line linear coefficientOf rebuiltFrom floorDiv width
+    firstOver firstFrom whole isWhole cellsBefore firstBad badSlot fine clean hasOne bitOf allBelow coefsRead coefRead value lastIn placeIn
+    bestByLimit bestByCells bestOf better before plansOf listsUpTo eachUpTo withUpTo
+    figureOf standing carried loss cellsOf total planeCells ceilDiv layerSize count inLayer spacing asciiFrom
+bench =
+    record {
+      written = C.written;
+      header = refl;
+      long = refl;
+      at160 = λ qs vs five. C.shown qs vs five (take 160 card) (openings .at160);
+      at159 = λ qs vs five. C.shows qs vs five (take 159 card) (openings .at159);
+      at64 = λ qs vs five. C.shows qs vs five (take 64 card) (openings .at64);
+      at63 = C.cut;
+      limit10 = C.by-limit 10;
+      limit9 = C.by-limit 9;
+      ties = rw (openings .whole) (refl, refl);
+      limit1 = C.by-limit 1;
+      limit0 = C.by-limit 0;
+      cells5 = C.by-cells 5;
+      minusOne = record { count = E.minus-one .count; digits = E.minus-one .digits };
+      two = record { count = E.two .count; digits = E.two .digits };
+      five = record { count = E.five .count; digits = E.five .digits };
+      ten = record { count = E.ten .count; digits = E.ten .digits };
+      rounding = cubic-down;
+      carrying = carried-twice;
+    }

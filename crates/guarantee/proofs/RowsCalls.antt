@@ -1,0 +1,81 @@
+-- What the calls come to on the bench card once their tests pass: those of lengths by the lengths that are given, those of the header by how the card opens.
+use mathlib.Core.Bool.{cond}
+use mathlib.Core.List.{List}
+use mathlib.Core.Path.{_≡_, refl, ap}
+use Prim.Native.Nat.{ℕ, _≤_}
+use borrow.Author.Tests.{eq-eqb, le-leb}
+use lib.Dec.{ltb}
+use lib.IntN.{ℤ}
+use lib.ListN.{length, take}
+use Rattle.integers.specs.Floor.{floorDiv, ceilDiv}
+use Rattle.digits.specs.Digits.{evens, odds, lowest, higher, digitAt, holds, firstFrom}
+use Rattle.layers.specs.declared.Curve.the-variants.{Linear}
+use Rattle.layers.specs.Lists.{tabulate, count, nth, total}
+use Rattle.layers.specs.Sheet.{spacing, inLayer, layerSize, pointOf}
+use Rattle.layers.specs.Calls.{inRange, goodPrefix, scanned}
+use Rattle.layers.proofs.Worked.{bench-coefs}
+use Rattle.text.specs.Decimal.{digitsIn, digits}
+use Rattle.text.specs.Line.{lineText}
+use Rattle.header.specs.Refusals.{refusal}
+use Rattle.header.specs.Header.{planeCells, cellsOf, asciiFrom, listText, listed, headerText}
+use Rattle.header.specs.Plan.{loads, firstOver}
+use Rattle.header.specs.Opening.{opening}
+use Rattle.header.proofs.Worked.{benchHeader}
+use Rattle.card.specs.Planes.{allBelow, packed, planeBit, planeBytes, atPlace, downFrom, body, enough, planesFor, countsFor, cardOf}
+use Rattle.card.specs.Writing.{outputLeast, badSizes, done, writing}
+use Rattle.card.specs.Reading.{Reading, wholeOf, readPlan, readOpened, showing}
+use Rattle.card.specs.Reading as R
+use Rattle.planner.specs.Planning.{bestByLimit, bestByCells, found, byLimit, byCells}
+use Rattle.planner.specs.Planning as N
+use Rattle.guarantee.specs.Bench.{sheet, samples, coefficients, card, Five}
+use Rattle.guarantee.proofs.RowsOpened.{opened, openings}
+
+-- ---- writing
+-- "planes=5,1,0, cells=6", and the six planes
+card-is : cardOf sheet Linear 1 coefficients ≡ card
+unfolding
+    cardOf headerText lineText digits digitsIn listText listed asciiFrom countsFor planesFor enough allBelow firstFrom holds evens odds
+    body downFrom atPlace planeBytes planeBit packed digitAt lowest higher floorDiv pointOf nth
+    tabulate planeCells ceilDiv layerSize count inLayer spacing cellsOf total
+card-is = refl
+
+pub written : (qs vs : List ℤ) (out : List ℕ) → Five qs vs → outputLeast ≤ length out
+    → writing samples sheet Linear 1 qs vs out ≡ done samples sheet Linear 1 qs vs out card
+unfolding writing badSizes scanned goodPrefix inRange
+written qs vs out five room =
+    rw (
+      eq-eqb (length qs) 5 (five .coefficients),
+      eq-eqb (length vs) 5 (five .values),
+      le-leb outputLeast (length out) room,
+      bench-coefs,
+      card-is,
+    )
+
+-- ---- showing
+module _ (qs vs : List ℤ) where
+  -- reading with all whole planes
+  abbrev pub wholeRead : List ℕ → Reading
+  wholeRead bs =
+      let plan = wholeOf qs vs bs benchHeader 64 in
+      readPlan qs vs bs benchHeader 64 plan (firstOver (loads plan) (loads plan))
+
+  pub shown : Five qs vs → (bs : List ℕ) → opening bs ≡ opened → showing qs vs bs ≡ wholeRead bs
+  unfolding showing readOpened
+  shown five bs o = rw (o, eq-eqb (length qs) 5 (five .coefficients), eq-eqb (length vs) 5 (five .values))
+
+  pub shows : Five qs vs → (bs : List ℕ) → opening bs ≡ opened
+      → (showing qs vs bs .plan ≡ wholeRead bs .plan) × (showing qs vs bs .figure ≡ wholeRead bs .figure)
+  shows five bs o = (ap (λ (r : Reading). r .plan) (shown five bs o), ap (λ (r : Reading). r .figure) (shown five bs o))
+
+  pub cut : showing qs vs (take 63 card) ≡ R.no qs vs (refusal 5 0 0)
+  unfolding showing
+  cut = rw (openings .at63)
+
+-- ---- planning
+pub by-limit : (limit : ℕ) → byLimit card limit ≡ cond (ltb limit 1) (N.no (refusal 10 0 0)) (found benchHeader (bestByLimit benchHeader limit))
+unfolding byLimit
+by-limit limit = rw (openings .whole)
+
+pub by-cells : (most : ℕ) → byCells card most ≡ found benchHeader (bestByCells benchHeader most)
+unfolding byCells
+by-cells most = rw (openings .whole)

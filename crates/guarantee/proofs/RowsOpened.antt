@@ -1,0 +1,31 @@
+-- The bench card as it opens, by computation: whole, and pulled at each byte that document 01's rows name.
+use mathlib.Core.Path.{_≡_, refl}
+use lib.ListN.{take}
+use Rattle.integers.specs.Floor.{ceilDiv}
+use Rattle.layers.specs.Lists.{count, total}
+use Rattle.layers.specs.Sheet.{spacing, inLayer, layerSize}
+use Rattle.text.specs.Decimal.{pushed, more, upTo, parsed}
+use Rattle.text.specs.Line.{before, starts, lineAt}
+use Rattle.header.specs.Refusals.{refusal}
+use Rattle.header.specs.Header.{planeCells, cellsOf, asciiFrom}
+use Rattle.header.specs.Opening.{Opening, no, curveLine, planesMost, countsIn, openingCells, openingPlanes, openingStep, openingCurve, openingLevels, openingCols, opening}
+use Rattle.header.proofs.HeaderLines.{accepting}
+use Rattle.header.proofs.Worked.{benchHeader}
+use Rattle.guarantee.specs.Bench.{card}
+
+-- the header, whose text has 64 bytes
+abbrev pub opened : Opening
+opened = accepting benchHeader 64
+
+pub record Openings : Type 0 where
+  pub whole : opening card ≡ opened
+  pub at160 : opening (take 160 card) ≡ opened
+  pub at159 : opening (take 159 card) ≡ opened
+  pub at64 : opening (take 64 card) ≡ opened
+  pub at63 : opening (take 63 card) ≡ no (refusal 5 0 0)
+
+pub openings : Openings
+unfolding
+    opening openingCols openingLevels openingCurve openingStep openingPlanes openingCells lineAt curveLine before starts parsed upTo more pushed countsIn planesMost
+    layerSize count inLayer spacing cellsOf total planeCells ceilDiv asciiFrom
+openings = record { whole = refl; at160 = refl; at159 = refl; at64 = refl; at63 = refl }

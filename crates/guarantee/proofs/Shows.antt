@@ -1,0 +1,104 @@
+-- Reading a pulled card with a plan that asks for whole planes alone: nothing refuses it, and its values are near the samples by the plan's figure. Showing it is reading it with all its whole planes, and the figure is then that of the planes that are not whole.
+use mathlib.Core.List.{List}
+use mathlib.Core.Path.{_≡_, sym, ap, _∙_}
+use Prim.Native.Nat.{ℕ, _+_, _*_, _-_, _≤_}
+use native.Mathlib.Decide.{decLt}
+use native.Mathlib.Omega.{arith}
+use lib.IntN.{ℤ}
+use lib.ListN.{length, take, List·getD-eq-default}
+use lib.Seq.{length-take-le}
+use Rattle.digits.specs.Digits.{loss}
+use Rattle.layers.specs.declared.Shape.{Shape}
+use Rattle.layers.specs.declared.Curve.{Curve}
+use Rattle.layers.specs.Limits.{layersMost}
+use Rattle.layers.specs.Lists.{tabulate}
+use Rattle.layers.specs.Sheet.{layers}
+use Rattle.layers.specs.Prediction.{width}
+use Rattle.layers.specs.Carry.{standing}
+use Rattle.layers.specs.Layering.{layering, coefs}
+use Rattle.layers.specs.Loops.{Samples}
+use Rattle.layers.proofs.Lists.{length-tabulate}
+use Rattle.header.specs.declared.Header.{Header}
+use Rattle.header.specs.declared.Plan.{Plan}
+use Rattle.header.specs.Header.{planesOf}
+use Rattle.header.specs.Plan.{loads}
+use Rattle.header.specs.CardOrder.{whole, wholePlan}
+use Rattle.header.specs.Figure.{figureOf}
+use Rattle.header.proofs.Rightness.{Right, layers-few}
+use Rattle.header.proofs.Whole.{whole-past}
+use Rattle.card.specs.Planes.{headerFor, cardOf}
+use Rattle.card.specs.Reading.{reading, showing}
+use Rattle.guarantee.specs.Guarantee.{Slices, Gives}
+use Rattle.guarantee.proofs.Cut.{cut-opens, cut-carries}
+use Rattle.guarantee.proofs.Fine.{carried-fine}
+use Rattle.guarantee.proofs.Fits.{end, fits-right, samples-fit}
+use Rattle.guarantee.proofs.Loaded.{whole-at}
+use Rattle.guarantee.proofs.Near.{values-near}
+use Rattle.guarantee.proofs.Taken.{AsksWhole, readAs, passed-reads}
+
+-- ---- the figure of all whole planes
+module _ {h : Header} (r : Right h) (n : ℕ) where
+  loads-whole : (k : ℕ) → loads (wholePlan h n) k ≡ whole h n k
+  loads-whole k =
+      elim (decLt k layersMost) [
+        | yes l ↦ whole-at h n k l
+        | no l ↦
+            let past : length (tabulate layersMost (whole h n)) ≤ k = omega (arith, length-tabulate layersMost (whole h n)) in
+            List·getD-eq-default (tabulate layersMost (whole h n)) 0 past ∙ sym (whole-past h n k (omega (arith, layers-few r)))
+      ]
+
+  whole-figure : figureOf h (loads (wholePlan h n)) ≡ h .step + standing (h .shape) (h .curve) (λ k. loss (planesOf h k - whole h n k) * width (h .step)) (layers (h .shape))
+  unfolding figureOf
+  whole-figure =
+      ap (λ (w : ℕ → ℕ). h .step + standing (h .shape) (h .curve) (λ k. loss (planesOf h k - w k) * width (h .step)) (layers (h .shape)))
+      (λ i k. loads-whole k i)
+
+-- ---- the card of samples, pulled behind its header
+module _ {sh : Shape} {e : ℕ} {g : List ℤ} (x : Samples sh e g) (curve : Curve) (n : ℕ) (behind : end sh curve e (coefs (layering sh curve) e g) ≤ n) where
+  abbrev q : List ℤ
+  q = coefs (layering sh curve) e g
+
+  abbrev h : Header
+  h = headerFor sh curve e q
+
+  abbrev long : ℕ
+  long = end sh curve e q
+
+  abbrev left : List ℕ
+  left = take n (cardOf sh curve e q)
+
+  module _ (plan : Plan) (asks : AsksWhole h long left plan) where
+    pub pulled-reads : (qs′ vs′ : List ℤ) → Slices sh qs′ vs′ → reading qs′ vs′ left plan ≡ readAs h long left plan
+    pulled-reads qs′ vs′ s =
+        let c = samples-fit x curve in
+        passed-reads (record {
+          opens = cut-opens c curve n behind;
+          slices = s;
+          taken = record { asks = asks; fine = carried-fine c curve (cut-carries c curve n behind plan asks) };
+        })
+
+    pub pulled-gives : Gives sh g (figureOf h (loads plan)) (readAs h long left plan)
+    pulled-gives = values-near x curve (cut-carries (samples-fit x curve) curve n behind plan asks)
+
+  -- WHAT IS SHOWN
+  abbrev all : Plan
+  all = wholePlan h (length left - long)
+
+  all-asks : AsksWhole h long left all
+  all-asks k l = omega (arith, whole-at h (length left - long) k l)
+
+  shows-all : (qs′ vs′ : List ℤ) → showing qs′ vs′ left ≡ reading qs′ vs′ left all
+  unfolding showing reading
+  shows-all qs′ vs′ = rw (cut-opens (samples-fit x curve) curve n behind)
+
+  pub shows : (qs′ vs′ : List ℤ) → Slices sh qs′ vs′ → showing qs′ vs′ left ≡ readAs h long left all
+  shows qs′ vs′ s = shows-all qs′ vs′ ∙ pulled-reads all all-asks qs′ vs′ s
+
+  pub shows-gives : Gives sh g (readAs h long left all .figure) (readAs h long left all)
+  shows-gives = pulled-gives all all-asks
+
+  pub shows-figure : n ≤ length (cardOf sh curve e q)
+      → readAs h long left all .figure ≡ e + standing sh curve (λ k. loss (planesOf h k - whole h (n - long) k) * width e) (layers sh)
+  shows-figure m =
+      ap (λ (l : ℕ). figureOf h (loads (wholePlan h (l - long)))) (length-take-le n (cardOf sh curve e q) m)
+      ∙ whole-figure (fits-right (samples-fit x curve) curve) (n - long)

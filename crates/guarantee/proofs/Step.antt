@@ -1,0 +1,95 @@
+-- One refinement of what reading with a plan left: it is refused with a number that is not 0, or it leaves what reading with one plane more leaves.
+use mathlib.Core.Bool.{true, _&&_}
+use mathlib.Core.List.{List}
+use mathlib.Core.Path.{_≡_, refl}
+use Prim.Native.Nat.{ℕ, suc, _-_, _<_}
+use native.Mathlib.Omega.{arith}
+use borrow.Author.Tests.{ltb-true, ne-eqb}
+use lib.Dec.{ltb}
+use lib.IntN.{ℤ}
+use lib.ListN.{length}
+use Rattle.integers.proofs.Bools.{and-left, and-right}
+use Rattle.layers.specs.Layering.{layering, rebuilt}
+use Rattle.layers.specs.Limits.{layersMost}
+use Rattle.layers.specs.Sheet.{layers}
+use Rattle.header.specs.declared.Header.{Header}
+use Rattle.header.specs.declared.Plan.{Plan}
+use Rattle.header.specs.declared.Details.{Details}
+use Rattle.header.specs.Refusals.{refusal}
+use Rattle.header.specs.Header.{planesOf}
+use Rattle.header.specs.Plan.{loads, firstOver, withPlane}
+use Rattle.header.specs.CardOrder.{whole, wholePlan}
+use Rattle.header.specs.Figure.{figureOf}
+use Rattle.header.proofs.Rightness.{Right, layers-few}
+use Rattle.card.specs.Reading.{Reading, fine, coefsRead, goodLengths}
+use Rattle.card.specs.Reading as R
+use Rattle.card.specs.Refining.{allHeld, coefsWith, refineOpened}
+use Rattle.guarantee.specs.Refinements.{keep}
+use Rattle.guarantee.proofs.Loaded.{whole-at}
+use Rattle.guarantee.proofs.OneMore.{more-places, more-taken, coefs-more}
+use Rattle.guarantee.proofs.Taken.{Taken, readAs}
+use Rattle.guarantee.proofs.Tests.{choice}
+
+module _ (h : Header) (long : ℕ) (bs : List ℕ) where
+  -- what reading with some plan of 13 places that it takes leaves
+  pub record Reached (r : Reading) : Type 0 where
+    pub plan : Plan
+    pub places : length (plan .planes) ≡ layersMost
+    pub taken : Taken h long bs plan
+    pub same : r ≡ readAs h long bs plan
+
+  module _ (right : Right h) {plan : Plan} (places : length (plan .planes) ≡ layersMost) (t : Taken h long bs plan) (k : ℕ) where
+    abbrev coefficients : List ℤ
+    coefficients = coefsRead h long bs (loads plan)
+
+    abbrev next : ℕ
+    next = planesOf h k - suc (loads plan k)
+
+    abbrev rebuild : List ℤ → List ℤ
+    rebuild qs = rebuilt (layering (h .shape) (h .curve)) (h .step) qs
+
+    abbrev Kept : Reading → Type 0
+    Kept new = Reached (keep new (readAs h long bs plan))
+
+    -- a refused one leaves what was there
+    refused : (d : Details) → (d .number ≡ 0 → ⊥) → Kept (R.no coefficients (rebuild coefficients) d)
+    refused d n = rw (ne-eqb (d .number) 0 n) (record { plan = plan; places = places; taken = t; same = refl })
+
+    -- one that is taken adds the digits that reading with one plane more reads
+    refined : k < layers (h .shape) → loads plan k < whole h (length bs - long) k → fine h long bs k next ≡ true → Kept (record {
+      refused = refusal 0 0 0;
+      plan = withPlane plan k;
+      figure = figureOf h (loads (withPlane plan k));
+      coefficients = coefsWith h long bs k next coefficients;
+      values = rebuild (coefsWith h long bs k next coefficients);
+    })
+    refined hk room ok =
+        record {
+          plan = withPlane plan k;
+          places = more-places right places t k hk room;
+          taken = more-taken right places t k hk room ok;
+          same = rw (coefs-more right places t k hk room);
+        }
+
+    -- test by test
+    pub step : Kept (refineOpened coefficients (rebuild coefficients) bs h long plan k)
+    unfolding refineOpened
+    step =
+        let limit = loads (wholePlan h (length bs - long)) in
+        let there = ltb k (layers (h .shape)) in
+        let further = ltb (loads plan k) (limit k) in
+        choice Kept (goodLengths coefficients (rebuild coefficients) h)
+        (λ _. choice Kept (ltb (firstOver limit (loads plan)) layersMost)
+        (λ _. refused (refusal 9 (firstOver limit (loads plan)) 0) (λ e. omega arith))
+        (λ _. choice Kept (there && further)
+        (λ e.
+        let hk = ltb-true k (layers (h .shape)) (and-left there further e) in
+        let more = ltb-true (loads plan k) (limit k) (and-right there further e) in
+        let room : loads plan k < whole h (length bs - long) k = omega (arith, more, whole-at h (length bs - long) k (omega (arith, hk, layers-few right))) in
+        choice Kept (allHeld coefficients)
+        (λ _. choice Kept (fine h long bs k next)
+        (λ ok. refined hk room ok)
+        (λ _. refused (refusal 8 k 0) (λ e. omega arith)))
+        (λ _. refused (refusal 11 0 0) (λ e. omega arith)))
+        (λ _. refused (refusal 9 k 0) (λ e. omega arith))))
+        (λ _. refused (refusal 3 0 0) (λ e. omega arith))

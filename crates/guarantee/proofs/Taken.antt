@@ -1,0 +1,155 @@
+-- A reading that is not refused. It tests that the bytes open, that the slices are long enough, that the plan asks for whole planes alone and that none of these is bad; so where all is well it answers by the card and the plan alone, whatever the slices held, and where it is not refused all is well.
+use mathlib.Core.Bool.{true, false, not, _&&_}
+use mathlib.Core.List.{List}
+use mathlib.Core.Path.{_≡_, refl, ap, ap₂, _∙_, subst}
+use Prim.Native.Nat.{ℕ, _+_, _-_, _<_, _≤_}
+use native.Mathlib.Nat.{mod-lt}
+use native.Mathlib.Omega.{arith}
+use borrow.Author.Tests.{ltb-false, le-ltb, eqb-true, eqb-false, not-false}
+use lib.Dec.{ltb, eqb}
+use lib.IntN.{ℤ}
+use lib.ListN.{length}
+use Rattle.integers.proofs.Bools.{by, and-left, and-right}
+use Rattle.digits.proofs.Fewest.{first-least}
+use Rattle.layers.specs.Layering.{layering, rebuilt}
+use Rattle.layers.specs.Limits.{layersMost}
+use Rattle.layers.specs.Sheet.{points, layers}
+use Rattle.header.specs.declared.Header.{Header}
+use Rattle.header.specs.declared.Plan.{Plan}
+use Rattle.header.specs.Refusals.{refusal}
+use Rattle.header.specs.Header.{planesOf}
+use Rattle.header.specs.Plan.{loads, firstOver}
+use Rattle.header.specs.Opening.{Opening, opening}
+use Rattle.header.specs.CardOrder.{whole, wholePlan}
+use Rattle.header.specs.Figure.{figureOf}
+use Rattle.header.proofs.HeaderLines.{accepting, lines-of, opening-of}
+use Rattle.header.proofs.Opens.{Opens, opened-right}
+use Rattle.header.proofs.Over.{before-over, none-over}
+use Rattle.header.proofs.Rightness.{Right, right-yes}
+use Rattle.card.specs.Reading.{Reading, fine, loaded, slotLayer, slotPlace, badSlot, slots, firstBad, coefsRead, goodLengths, readOpened, reading}
+use Rattle.card.proofs.ReadCall.{lengths-good}
+use Rattle.card.proofs.SlotOrder.{slotNo, slot-only, slot-last, first-none}
+use Rattle.guarantee.specs.Guarantee.{Slices}
+use Rattle.guarantee.proofs.Loaded.{few-planes, whole-at, loaded-yes, loaded-by}
+
+-- ---- what opening gives
+module _ (bs : List ℕ) {h : Header} {long : ℕ} (e : opening bs ≡ accepting h long) where
+  pub opens-right : Opens bs h long
+  opens-right = subst (λ (o : Opening). Opens bs (o .header) (o .long)) e (opened-right bs (ap (λ (o : Opening). o .refused .number) e))
+
+  pub right-header : Right h
+  right-header = right-yes h (opens-right .right-is)
+
+module _ (h : Header) (long : ℕ) (bs : List ℕ) where
+  -- ---- the plans that reading takes
+  abbrev pub AsksWhole : Plan → Type 0
+  AsksWhole plan = (k : ℕ) → k < layersMost → loads plan k ≤ whole h (length bs - long) k
+
+  abbrev pub AllFine : Plan → Type 0
+  AllFine plan = (k p : ℕ) → k < layers (h .shape) → p < planesOf h k → planesOf h k ≤ p + loads plan k → fine h long bs k p ≡ true
+
+  pub record Taken (plan : Plan) : Type 0 where
+    pub asks : AsksWhole plan
+    pub fine : AllFine plan
+
+  -- what it answers with one
+  abbrev pub readAs : Plan → Reading
+  readAs plan =
+      record {
+        refused = refusal 0 0 0;
+        plan = plan;
+        figure = figureOf h (loads plan);
+        coefficients = coefsRead h long bs (loads plan);
+        values = rebuilt (layering (h .shape) (h .curve)) (h .step) (coefsRead h long bs (loads plan));
+      }
+
+  -- ---- its tests of a plan
+  module _ (plan : Plan) where
+    -- whole planes alone
+    abbrev limit : ℕ → ℕ
+    limit = loads (wholePlan h (length bs - long))
+
+    abbrev over : ℕ
+    over = firstOver limit (loads plan)
+
+    asks-passes : AsksWhole plan → ltb over layersMost ≡ false
+    asks-passes w = le-ltb over layersMost (omega (arith, none-over limit (loads plan) (λ k l. omega (arith, whole-at h (length bs - long) k l, w k l))))
+
+    passes-asks : ltb over layersMost ≡ false → AsksWhole plan
+    passes-asks e k l = omega (arith, before-over limit (loads plan) k (omega (arith, ltb-false over layersMost e)), whole-at h (length bs - long) k l)
+
+    -- no bad plane: each stands in a slot
+    abbrev bad : ℕ
+    bad = firstBad h long bs (loads plan)
+
+    abbrev all : ℕ
+    all = slots h long bs (loads plan)
+
+    slot-good : AllFine plan → (t : ℕ) → badSlot h long bs (loads plan) t ≡ false
+    unfolding badSlot
+    slot-good f t =
+        let k = slotLayer h long bs (loads plan) t in
+        let p = slotPlace h long bs (loads plan) t in
+        by (loaded h long bs (loads plan) k p)
+        (λ e. let l = loaded-yes h long bs (loads plan) k p e in rw (e, f k p (mod-lt t (omega arith)) (l .0) (l .1)))
+        (λ e. rw e)
+
+    fine-passes : AllFine plan → ltb bad all ≡ false
+    unfolding firstBad
+    fine-passes f = le-ltb bad all (omega (arith, first-none (badSlot h long bs (loads plan)) all 0 (λ t _ _. slot-good f t)))
+
+    passes-fine : Right h → ltb bad all ≡ false → AllFine plan
+    unfolding badSlot firstBad
+    passes-fine r e k p hk named asked =
+        let K = layers (h .shape) in
+        let t = slotNo K k p in
+        let own = slot-only K (omega arith) k p t hk (omega (arith, few-planes r k hk)) refl in
+        let last : t < all = slot-last K (omega arith) k p hk in
+        let good : loaded h long bs (loads plan) k p && not (fine h long bs k p) ≡ false =
+        ap₂ (λ (x y : ℕ). loaded h long bs (loads plan) x y && not (fine h long bs x y)) (own .0) (own .1)
+        ∙ first-least (badSlot h long bs (loads plan)) all 0 t (omega arith) (omega (arith, ltb-false bad all e)) in
+        not-false (fine h long bs k p) (rw (loaded-by h long bs (loads plan) k p named asked) at good)
+
+-- ---- ALL IS WELL
+pub record Passed (h : Header) (long : ℕ) (bs : List ℕ) (plan : Plan) (qs vs : List ℤ) : Type 0 where
+  pub opens : opening bs ≡ accepting h long
+  pub slices : Slices (h .shape) qs vs
+  pub taken : Taken h long bs plan
+
+-- so it is not refused
+pub passed-reads : {h : Header} {long : ℕ} {bs : List ℕ} {plan : Plan} {qs vs : List ℤ} → Passed h long bs plan qs vs → reading qs vs bs plan ≡ readAs h long bs plan
+unfolding reading readOpened
+passed-reads {h} {long} {bs} {plan} {qs} {vs} t =
+    rw (
+      t .opens,
+      lengths-good qs vs h (t .slices .coefficients) (t .slices .values),
+      asks-passes h long bs plan (t .taken .asks),
+      fine-passes h long bs plan (t .taken .fine),
+    )
+
+-- and only so
+module _ (qs vs : List ℤ) (bs : List ℕ) (plan : Plan) where
+  opened-passed : (h : Header) (long : ℕ) → opening bs ≡ accepting h long → readOpened qs vs bs h long plan .refused .number ≡ 0 → Passed h long bs plan qs vs
+  unfolding readOpened
+  opened-passed h long opens zero =
+      by (goodLengths qs vs h)
+      (λ good. by (ltb (over h long bs plan) layersMost)
+      (λ y. absurd (let z : 9 ≡ 0 = rw (good, y) at zero in omega arith))
+      (λ within. by (ltb (bad h long bs plan) (all h long bs plan))
+      (λ y. absurd (let z : 8 ≡ 0 = rw (good, within, y) at zero in omega arith))
+      (λ none.
+      let full-q = eqb (length qs) (points (h .shape)) in
+      let full-v = eqb (length vs) (points (h .shape)) in
+      record {
+        opens = opens;
+        slices = record { coefficients = eqb-true _ _ (and-left full-q full-v good); values = eqb-true _ _ (and-right full-q full-v good) };
+        taken = record { asks = passes-asks h long bs plan within; fine = passes-fine h long bs plan (right-header bs opens) none };
+      })))
+      (λ n. absurd (let z : 3 ≡ 0 = rw n at zero in omega arith))
+
+  pub reading-passed : reading qs vs bs plan .refused .number ≡ 0 → Passed (opening bs .header) (opening bs .long) bs plan qs vs
+  unfolding reading
+  reading-passed zero =
+      by (eqb (opening bs .refused .number) 0)
+      (λ y. opened-passed _ _ (opening-of bs _ _ (lines-of bs (eqb-true _ 0 y))) (rw y at zero))
+      (λ n. absurd (eqb-false _ 0 n (rw n at zero)))

@@ -1,0 +1,113 @@
+-- A writing that is not refused. It tests sizes, settings, lengths and samples one after the other, and each test that failed would give a number that is not 0. So what passes them all is written, and only that; and it passes them where the samples can be quantized and the slices have room.
+use mathlib.Core.Bool.{true, false, _&&_}
+use mathlib.Core.List.{List, [], _∷_}
+use mathlib.Core.Path.{_≡_, refl, ap, _∙_}
+use Prim.Native.Nat.{ℕ, suc, _<_, _≤_}
+use native.Mathlib.Omega.{arith}
+use borrow.Author.Tests.{ltb-false, le-ltb, le-leb, eqb-true, eq-eqb}
+use lib.Dec.{ltb, leb, eqb}
+use lib.IntN.{ℤ, pos, negℤ}
+use lib.ListN.{length}
+use lib.Signed.{leZ}
+use Rattle.integers.specs.Distance.{Within}
+use Rattle.integers.proofs.Bools.{by, and-left, and-both, is-true}
+use Rattle.integers.proofs.Diff.{#, lit, ⊟}
+use Rattle.integers.proofs.Near.{within-at}
+use Rattle.integers.proofs.Order.{le-by}
+use Rattle.layers.specs.declared.Shape.{Shape}
+use Rattle.layers.specs.declared.Curve.{Curve}
+use Rattle.layers.specs.declared.Scan.{Scan}
+use Rattle.layers.specs.declared.Scan.the-variants.{Clear, OutAt}
+use Rattle.layers.specs.Limits.{pointsMost, levelsMost, stepMost, sampleMost}
+use Rattle.layers.specs.Lists.{at}
+use Rattle.layers.specs.Sheet.{points}
+use Rattle.layers.specs.Layering.{layering, coefs}
+use Rattle.layers.specs.Calls.{inRange, goodPrefix, scanned}
+use Rattle.layers.specs.Loops.{Samples}
+use Rattle.layers.proofs.Accepting.{accepted-yes}
+use Rattle.layers.proofs.Answers.{clear-within}
+use Rattle.card.specs.Planes.{cardOf}
+use Rattle.card.specs.Writing.{outputLeast, badSizes, badSettings, goodLengths, afterScan, done, writing}
+use Rattle.card.proofs.BadSizes.{left-over}
+use Rattle.card.proofs.Writes.{shape-accepted}
+use Rattle.guarantee.specs.WrittenBack.{Room}
+use Rattle.guarantee.proofs.Tests.{or-no-left, or-no-right}
+
+-- ---- samples that are all in range are scanned clear
+within-in-range : (z : ℤ) → Within sampleMost z → inRange z ≡ true
+unfolding inRange
+within-in-range z w =
+    and-both (leZ (negℤ (pos sampleMost)) z) (leZ z (pos sampleMost))
+    (is-true _ (le-by (⊟ (lit sampleMost)) (# z) (omega (arith, within-at (# z) w)) .le))
+    (is-true _ (le-by (# z) (lit sampleMost) (omega (arith, within-at (# z) w)) .le))
+
+all-good : (xs : List ℤ) → ((p : ℕ) → p < length xs → Within sampleMost (at xs p)) → goodPrefix xs ≡ length xs
+unfolding goodPrefix
+all-good [] w = refl
+all-good (x ∷ xs) w = rw (within-in-range x (w 0 (omega arith))) (ap suc (all-good xs (λ p l. w (suc p) (omega arith))))
+
+scans-clear : (cols : ℕ) (xs : List ℤ) → ((p : ℕ) → p < length xs → Within sampleMost (at xs p)) → scanned cols xs ≡ Clear
+unfolding scanned
+scans-clear cols xs w = let all : length xs ≤ goodPrefix xs = omega (arith, all-good xs w) in rw (le-ltb (goodPrefix xs) (length xs) all)
+
+one-none : {n : ℕ} → suc n ≡ 0 → ⊥
+one-none e = omega arith
+
+module _ (g : List ℤ) (sh : Shape) (curve : Curve) (e : ℕ) (qs vs : List ℤ) (out : List ℕ) where
+  -- ---- the tests
+  pub record Passes : Type 0 where
+    pub sizes : badSizes (sh .rows) (sh .cols) ≡ false
+    pub settings : badSettings g sh curve e qs vs out ≡ false
+    pub lengths : goodLengths g sh curve e qs vs out ≡ true
+    pub clear : scanned (sh .cols) g ≡ Clear
+
+  -- the card of the samples
+  pub passes-written : Passes → writing g sh curve e qs vs out ≡ done g sh curve e qs vs out (cardOf sh curve e (coefs (layering sh curve) e g))
+  unfolding writing
+  passes-written t = rw (t .sizes, t .settings, t .lengths) (ap (afterScan g sh curve e qs vs out) (t .clear))
+
+  after-clear : (s : Scan) → afterScan g sh curve e qs vs out s .refused .number ≡ 0 → s ≡ Clear
+  after-clear Clear zero = refl
+  after-clear (OutAt row col) zero = absurd (one-none zero)
+
+  pub writing-passes : writing g sh curve e qs vs out .refused .number ≡ 0 → Passes
+  unfolding writing
+  writing-passes zero =
+      by (badSizes (sh .rows) (sh .cols))
+      (λ y. absurd (one-none (rw y at zero)))
+      (λ sizes. by (badSettings g sh curve e qs vs out)
+      (λ y. absurd (one-none (rw (sizes, y) at zero)))
+      (λ settings. by (goodLengths g sh curve e qs vs out)
+      (λ lengths. record { sizes = sizes; settings = settings; lengths = lengths; clear = after-clear _ (rw (sizes, settings, lengths) at zero) })
+      (λ y. absurd (one-none (rw (sizes, settings, y) at zero)))))
+
+  -- ---- what they say of the samples
+  pub passes-samples : Passes → Samples sh e g
+  passes-samples t =
+      let deep = ltb-false levelsMost (sh .levels) (or-no-left (ltb levelsMost (sh .levels)) (ltb stepMost e) (t .settings)) in
+      let wide = ltb-false stepMost e (or-no-right (ltb levelsMost (sh .levels)) (ltb stepMost e) (t .settings)) in
+      let full = eqb (length g) (points sh) in
+      let rest = eqb (length qs) (points sh) in
+      let long : length g ≡ points sh = eqb-true _ _ (and-left full rest (and-left (full && rest) (eqb (length vs) (points sh) && leb outputLeast (length out)) (t .lengths))) in
+      record {
+        shape = shape-accepted g sh curve e qs vs out (t .sizes) deep wide;
+        step = wide;
+        long = long;
+        small = λ p l. clear-within (sh .cols) g (t .clear) p (omega arith);
+      }
+
+  -- and where they pass
+  pub samples-pass : Samples sh e g → Room (points sh) qs vs out → Passes
+  samples-pass x room =
+      let s = accepted-yes sh (x .shape) in
+      record {
+        sizes = left-over (sh .rows) (sh .cols) (λ z. omega (arith, s .tall)) (λ z. omega (arith, s .wide)) ∙ le-ltb pointsMost (points sh) (s .small);
+        settings = rw (le-ltb levelsMost (sh .levels) (s .shallow), le-ltb stepMost e (x .step));
+        lengths = rw (
+          eq-eqb (length g) (points sh) (x .long),
+          eq-eqb (length qs) (points sh) (room .coefficients),
+          eq-eqb (length vs) (points sh) (room .values),
+          le-leb outputLeast (length out) (room .output),
+        );
+        clear = scans-clear (sh .cols) g (λ p l. x .small p (omega (arith, x .long)));
+      }

@@ -1,0 +1,4 @@
+pub mod WrittenBack
+pub mod Refinements
+pub mod Guarantee
+pub mod Bench
