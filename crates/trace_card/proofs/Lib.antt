@@ -1,0 +1,3 @@
+mod Answers
+mod Lengths
+mod Told

@@ -1,0 +1,140 @@
+-- The C boundary (include/trace_card.h): what each function returns and leaves in the caller's memory, by the definitions of the calls.
+use mathlib.Core.Bool.{Bool, cond}
+use mathlib.Core.List.{List, [], _∷_, _++_}
+use Prim.Native.Nat.{ℕ, _+_, _-_}
+use lib.Dec.{eqb}
+use lib.IntN.{ℤ}
+use lib.ListN.{length, replicate}
+use Rattle.layers.specs.declared.Curve.the-variants.{Linear, Cubic}
+use Rattle.layers.specs.Limits.{layersMost}
+use Rattle.header.specs.declared.Details.{Details}
+use Rattle.header.specs.declared.Plan.{Plan}
+use Rattle.header.specs.Refusals.{refusal}
+use Rattle.header.specs.Figure.{Bounding, bounding}
+use Rattle.card.specs.Writing.{Writing, writing, badSizes, shapeOf}
+use Rattle.card.specs.Writing as W
+use Rattle.card.specs.Reading.{Reading, reading, showing}
+use Rattle.card.specs.Refining.{refining}
+use Rattle.planner.specs.Planning.{Planning, byLimit, byCells}
+
+-- ---- the answer: "24 numbers: [0] the refusal's number, [1] [2] its details, [3] the card's length (write) or the plan's cells (planning), [4] the
+-- figure, [5..] the plan (13 numbers; reached, given or found); what a call does not answer is 0"
+abbrev pub answerLength : ℕ
+answerLength = 24
+
+unfoldable pub numbers : Details → ℕ → ℕ → List ℕ → List ℕ
+numbers d size figure plan =
+    d .number ∷ d .first ∷ d .second ∷ size ∷ figure ∷ (plan ++ replicate (answerLength - (5 + layersMost)) 0)
+
+abbrev pub nothing : List ℕ
+nothing = replicate layersMost 0
+
+-- "`answer` not 24 long, or `plan` not 13 long: returns 3, nothing is written"
+abbrev pub answerable : List ℕ → Bool
+answerable answer = eqb (length answer) answerLength
+
+abbrev pub isPlan : List ℕ → Bool
+isPlan plan = eqb (length plan) layersMost
+
+abbrev pub planOf : List ℕ → Plan
+planOf plan = record { planes = plan }
+
+-- ---- writing
+pub record AfterWriting : Type 0 where
+  pub returned : ℕ
+  pub answer : List ℕ
+  pub coefficients : List ℤ
+  pub values : List ℤ
+  pub output : List ℕ
+
+-- what the code returned, and the slices that it left
+abbrev pub wrote : ℕ → List ℕ → List ℤ → List ℤ → List ℕ → AfterWriting
+wrote r a qs vs out = record { returned = r; answer = a; coefficients = qs; values = vs; output = out }
+
+abbrev pub writtenAs : Writing → AfterWriting
+writtenAs w =
+    record {
+      returned = w .refused .number;
+      answer = numbers (w .refused) (w .long) 0 nothing;
+      coefficients = w .coefficients;
+      values = w .values;
+      output = w .output;
+    }
+
+module _ (xs : List ℤ) (rows cols levels curve step : ℕ) (qs vs : List ℤ) (out : List ℕ) where
+  -- "`curve` is 0 linear, 1 cubic, and any other number is refusal 2", so that refusal 1 still comes first
+  unfoldable pub writingBy : Writing
+  writingBy =
+      cond (eqb curve 0) (writing xs (shapeOf rows cols levels) Linear step qs vs out)
+      (cond (eqb curve 1) (writing xs (shapeOf rows cols levels) Cubic step qs vs out)
+      (W.no xs (shapeOf rows cols levels) Linear step qs vs out (cond (badSizes rows cols) (refusal 1 0 0) (refusal 2 0 0))))
+
+  unfoldable pub writeCall : List ℕ → AfterWriting
+  writeCall answer =
+      cond (answerable answer) (writtenAs writingBy)
+      (record { returned = 3; answer = answer; coefficients = qs; values = vs; output = out })
+
+-- ---- reading, showing and refining
+pub record AfterReading : Type 0 where
+  pub returned : ℕ
+  pub answer : List ℕ
+  pub coefficients : List ℤ
+  pub values : List ℤ
+
+abbrev pub left : ℕ → List ℕ → List ℤ → List ℤ → AfterReading
+left r a qs vs = record { returned = r; answer = a; coefficients = qs; values = vs }
+
+abbrev pub readAs : Reading → AfterReading
+readAs r =
+    record {
+      returned = r .refused .number;
+      answer = numbers (r .refused) 0 (r .figure) (r .plan .planes);
+      coefficients = r .coefficients;
+      values = r .values;
+    }
+
+module _ (qs vs : List ℤ) (answer : List ℕ) where
+  abbrev pub unread : AfterReading
+  unread = record { returned = 3; answer = answer; coefficients = qs; values = vs }
+
+  unfoldable pub readCall : List ℕ → List ℕ → AfterReading
+  readCall card plan = cond (answerable answer) (cond (isPlan plan) (readAs (reading qs vs card (planOf plan))) unread) unread
+
+  unfoldable pub showCall : List ℕ → AfterReading
+  showCall card = cond (answerable answer) (readAs (showing qs vs card)) unread
+
+  unfoldable pub refineCall : List ℕ → List ℕ → ℕ → AfterReading
+  refineCall card plan layer =
+      cond (answerable answer) (cond (isPlan plan) (readAs (refining qs vs card (planOf plan) layer)) unread) unread
+
+-- ---- the figure of a plan, and planning
+pub record AfterAsking : Type 0 where
+  pub returned : ℕ
+  pub answer : List ℕ
+
+abbrev pub asked : ℕ → List ℕ → AfterAsking
+asked r a = record { returned = r; answer = a }
+
+abbrev pub unasked : List ℕ → AfterAsking
+unasked answer = record { returned = 3; answer = answer }
+
+-- "beside a refusal all but [0] to [2] are 0"
+abbrev pub boundedAs : Bounding → List ℕ → AfterAsking
+boundedAs b plan =
+    record {
+      returned = b .refused .number;
+      answer = numbers (b .refused) 0 (b .figure) (cond (eqb (b .refused .number) 0) plan nothing);
+    }
+
+unfoldable pub figureCall : List ℕ → List ℕ → List ℕ → AfterAsking
+figureCall card plan answer =
+    cond (answerable answer) (cond (isPlan plan) (boundedAs (bounding card (planOf plan)) plan) (unasked answer)) (unasked answer)
+
+abbrev pub plannedAs : Planning → AfterAsking
+plannedAs p = record { returned = p .refused .number; answer = numbers (p .refused) (p .cells) (p .figure) (p .plan .planes) }
+
+unfoldable pub limitCall : List ℕ → ℕ → List ℕ → AfterAsking
+limitCall card limit answer = cond (answerable answer) (plannedAs (byLimit card limit)) (unasked answer)
+
+unfoldable pub cellsCall : List ℕ → ℕ → List ℕ → AfterAsking
+cellsCall card cells answer = cond (answerable answer) (plannedAs (byCells card cells)) (unasked answer)

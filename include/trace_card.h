@@ -1,0 +1,57 @@
+/* The trace card: a sheet of whole numbers written coarse part first, readable from any cut, with one figure beside it: how far off any value may be.
+ *
+ * Every function returns the refusal's number, 0 where the call is accepted. A slice is a pointer, then the number of its elements. A refused
+ * call changes nothing but the answer.
+ *
+ * answer has 24 numbers: [0] the refusal's number, [1] and [2] its details, [3] the card's length (write) or the plan's cells (planning),
+ * [4] the figure, [5] to [17] the plan that was reached, given or found; what a call does not answer is 0, and beside a refusal all but [0] to [2]
+ * are 0. Where answer is not 24 long, or plan not 13, a function returns 3 and writes nothing.
+ *
+ * curve is 0 for linear and 1 for cubic; any other number is refusal 2. plan has 13 numbers: the planes loaded from the top of each layer, 0 past
+ * the last. Refusals: 1 a size, 2 levels, curve or step, 3 a slice's length, 4 a sample out of range (row, column), 5 the header is cut, 6 a wrong
+ * line (which), 7 bytes follow the last cell, 8 a plane that cannot be (layer), 9 a plan that asks too much (place), 10 a limit below the
+ * step, 11 a coefficient out of range.
+ */
+#ifndef TRACE_CARD_H
+#define TRACE_CARD_H
+
+#include <stddef.h>
+#include <stdint.h>
+
+#ifdef __cplusplus
+extern "C" {
+#endif
+
+/* Writes a sheet of rows by cols samples: its coefficients, the values as they will be read, and the card at the front of output, which
+ * has room for 32,768 bytes or more. */
+uint64_t trace_card_write(const int32_t *samples, size_t samples_length, uint64_t rows, uint64_t cols, uint64_t levels, uint64_t curve,
+    uint64_t step, int32_t *coefficients, size_t coefficients_length, int64_t *values, size_t values_length, uint8_t *output,
+    size_t output_length, uint64_t *answer, size_t answer_length);
+
+/* Reads a card, cut or whole, with a plan. */
+uint64_t trace_card_read(const uint8_t *card, size_t card_length, const uint64_t *plan, size_t plan_length, int32_t *coefficients,
+    size_t coefficients_length, int64_t *values, size_t values_length, uint64_t *answer, size_t answer_length);
+
+/* Reads a card, cut or whole, with all the planes that are there. */
+uint64_t trace_card_show(const uint8_t *card, size_t card_length, int32_t *coefficients, size_t coefficients_length, int64_t *values,
+    size_t values_length, uint64_t *answer, size_t answer_length);
+
+/* Adds the next plane of a layer to a reading with a plan. */
+uint64_t trace_card_refine(const uint8_t *card, size_t card_length, const uint64_t *plan, size_t plan_length, uint64_t layer,
+    int32_t *coefficients, size_t coefficients_length, int64_t *values, size_t values_length, uint64_t *answer, size_t answer_length);
+
+/* The figure of a plan. */
+uint64_t trace_card_figure(const uint8_t *card, size_t card_length, const uint64_t *plan, size_t plan_length, uint64_t *answer,
+    size_t answer_length);
+
+/* The plan with the fewest cells whose figure is at most limit. */
+uint64_t trace_card_plan_by_limit(const uint8_t *card, size_t card_length, uint64_t limit, uint64_t *answer, size_t answer_length);
+
+/* The plan with the smallest figure in at most so many cells. */
+uint64_t trace_card_plan_by_cells(const uint8_t *card, size_t card_length, uint64_t cells, uint64_t *answer, size_t answer_length);
+
+#ifdef __cplusplus
+}
+#endif
+
+#endif
