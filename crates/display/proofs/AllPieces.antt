@@ -1,0 +1,97 @@
+-- The pieces that are printed, in order, are the text of what is shown: the lines before the values, and then the rows.
+use mathlib.Core.Bool.{true, false}
+use mathlib.Core.List.{List, _++_, append-assoc, append-nil}
+use mathlib.Core.Path.{_≡_, ap₂, sym, _∙_}
+use Prim.Native.Nat.{ℕ, _+_, _-_, _<_}
+use native.Mathlib.Nat.{zero-add}
+use native.Mathlib.Omega.{arith}
+use borrow.Author.Tests.{le-ltb, eqb-true}
+use lib.Dec.{ltb, eqb}
+use lib.IntN.{ℤ, pos}
+use lib.ListN.{length, length-replicate}
+use Rattle.integers.proofs.Bools.{by, and-right}
+use Rattle.layers.specs.Limits.{layersMost}
+use Rattle.layers.specs.Sheet.{points}
+use Rattle.layers.specs.Layering.{layering}
+use Rattle.layers.proofs.Law.{length-rebuilt}
+use Rattle.text.specs.Line.{lineText}
+use Rattle.header.specs.declared.Header.{Header}
+use Rattle.header.specs.Header.{ascii}
+use Rattle.header.specs.Plan.{loads, firstOver}
+use Rattle.header.specs.Opening.{opening}
+use Rattle.card.specs.Reading.{showing, readOpened, goodLengths, wholeOf, firstBad, slots, coefsRead}
+use Rattle.display.specs.declared.Shown.{Shown}
+use Rattle.display.specs.Shown.{loadedText, rowsText, textOf, room, seen, shownOf, valuesOf, shownText, valuePiece, pieceAt, pieces, inOrder}
+use Rattle.display.proofs.OpenedSize.{opened-sheet}
+use Rattle.display.proofs.Order.{order-split, order-same}
+use Rattle.display.proofs.Rows.{rows-pieces}
+
+-- ---- the pieces of any answer
+module _ (s : Shown) (vs : List ℤ) where
+  refused-piece : eqb (s .number) 0 ≡ false → inOrder (pieceAt s vs) (pieces (s .number) vs) 0 ≡ textOf s vs
+  unfolding inOrder pieceAt textOf
+  refused-piece e = simp (e, append-nil)
+
+  module _ (e : eqb (s .number) 0 ≡ true) where
+    piece-value : (k : ℕ) → pieceAt s vs (4 + k) ≡ valuePiece vs (s .shape .cols) k
+    unfolding pieceAt
+    piece-value k = let d : 4 + k - 4 ≡ k = omega arith in rw (e, le-ltb (4 + k) 4 (omega arith), d)
+
+    lines-pieces : inOrder (pieceAt s vs) 4 0 ≡ lineText (ascii "rows=") (s .shape .rows) ++ lineText (ascii "cols=") (s .shape .cols) ++ loadedText (s .shape .levels) (s .plan) ++ lineText (ascii "figure=") (s .figure)
+    unfolding inOrder pieceAt
+    lines-pieces = simp (e, append-assoc, append-nil)
+
+    module _ (some : 0 < s .shape .cols) (long : length vs ≡ points (s .shape)) where
+      values-pieces : inOrder (pieceAt s vs) (length vs) 4 ≡ rowsText (s .shape .rows) (s .shape .cols) vs
+      values-pieces =
+          order-same (pieceAt s vs) (valuePiece vs (s .shape .cols)) (length vs) 4 0 (λ k _. rw zero-add (piece-value k))
+          ∙ rw long (rows-pieces (s .shape .cols) some (s .shape .rows) vs long)
+
+      sheet-pieces : inOrder (pieceAt s vs) (pieces (s .number) vs) 0 ≡ textOf s vs
+      unfolding textOf
+      sheet-pieces = rw e (order-split (pieceAt s vs) 4 (length vs) 0 ∙ ap₂ (λ (a b : List ℕ). a ++ b) lines-pieces values-pieces)
+
+-- ---- what showing leaves in the slice of values is as long as the slice
+module _ (qs vs : List ℤ) (bs : List ℕ) where
+  opened-long : (h : Header) (long : ℕ) → length (readOpened qs vs bs h long (wholeOf qs vs bs h long) .values) ≡ length vs
+  unfolding readOpened
+  opened-long h long =
+      let plan = loads (wholeOf qs vs bs h long) in
+      by (goodLengths qs vs h)
+      (λ g.
+      by (ltb (firstOver plan plan) layersMost)
+      (λ o. rw (g, o))
+      (λ o.
+      by (ltb (firstBad h long bs plan) (slots h long bs plan))
+      (λ b. rw (g, o, b))
+      (λ b. rw (g, o, b) (length-rebuilt (layering (h .shape) (h .curve)) (h .step) (coefsRead h long bs plan) ∙ sym (eqb-true (length vs) (points (h .shape)) (and-right (eqb (length qs) (points (h .shape))) (eqb (length vs) (points (h .shape))) g))))))
+      (λ g. rw g)
+
+  showing-long : length (showing qs vs bs .values) ≡ length vs
+  unfolding showing
+  showing-long =
+      by (eqb (opening bs .refused .number) 0)
+      (λ t. rw t (opened-long (opening bs .header) (opening bs .long)))
+      (λ t. rw t)
+
+pub values-long : (bs : List ℕ) → length (valuesOf bs) ≡ points (opening bs .header .shape)
+values-long bs = showing-long (room bs) (room bs) bs ∙ length-replicate (points (opening bs .header .shape)) (pos 0)
+
+-- ---- a card's bytes: a card that is shown was opened, so its sheet has columns
+module _ (bs : List ℕ) where
+  pub refused-shown : eqb (opening bs .refused .number) 0 ≡ false → seen bs .refused .number ≡ opening bs .refused .number
+  unfolding showing
+  refused-shown t = rw t
+
+  shown-opened : seen bs .refused .number ≡ 0 → opening bs .refused .number ≡ 0
+  shown-opened e =
+      by (eqb (opening bs .refused .number) 0)
+      (λ t. eqb-true _ _ t)
+      (λ t. sym (refused-shown t) ∙ e)
+
+  pub shown-pieces : inOrder (pieceAt (shownOf bs) (valuesOf bs)) (pieces (shownOf bs .number) (valuesOf bs)) 0 ≡ shownText bs
+  unfolding shownText
+  shown-pieces =
+      by (eqb (shownOf bs .number) 0)
+      (λ e. sheet-pieces (shownOf bs) (valuesOf bs) e (opened-sheet bs (shown-opened (eqb-true _ _ e)) .wide) (values-long bs))
+      (λ e. refused-piece (shownOf bs) (valuesOf bs) e)

@@ -1,0 +1,50 @@
+-- What is printed of an input that is longer than any card: it is never accepted, so it is the one line of the refusal that its first bytes tell, and whether a byte 10 follows, which may be looked for part by part.
+use mathlib.Core.Bool.{false, _||_}
+use mathlib.Core.List.{List, _++_}
+use mathlib.Core.Path.{_≡_, ap}
+use Prim.Native.Nat.{ℕ, _+_, _<_, _≤_}
+use native.Mathlib.Omega.{arith}
+use borrow.Author.Tests.{lt-ltb, le-ltb, ltb-true, ltb-false, ne-eqb}
+use lib.Dec.{ltb, eqb}
+use lib.ListN.{length, drop, length-append}
+use Rattle.integers.proofs.Bools.{by}
+use Rattle.text.specs.Line.{newline, before, lineText}
+use Rattle.text.proofs.Search.{Free, before-le, before-in, before-past}
+use Rattle.header.specs.Header.{ascii, headerText}
+use Rattle.header.specs.Opening.{opening}
+use Rattle.header.proofs.HeaderLines.{Accepts}
+use Rattle.header.proofs.Opens.{opened-right}
+use Rattle.header.proofs.Rightness.{right-yes}
+use Rattle.header.proofs.TextLength.{card-fits}
+use Rattle.display.specs.Shown.{textOf, seen, shownText, bufferBytes, hasEnd, longNumber}
+use Rattle.display.proofs.AllPieces.{refused-shown}
+use Rattle.display.proofs.LongInput.{long-opening}
+
+-- a card has at most 32,768 bytes
+long-refused : (bs : List ℕ) → 32768 < length bs → Accepts (opening bs) → ⊥
+long-refused bs h e =
+    let o = opened-right bs e in
+    let text = headerText (opening bs .header) in
+    let z : ⊥ = omega (arith, ap length (o .text-is), length-append text (drop (opening bs .long) bs), o .body-fits, card-fits (right-yes (opening bs .header) (o .right-is))) in
+    z
+
+pub long-shown : (bs rest : List ℕ) → bufferBytes ≤ length bs → shownText (bs ++ rest) ≡ lineText (ascii "refused=") (longNumber (opening bs .refused .number) (hasEnd rest))
+unfolding shownText textOf
+long-shown bs rest enough =
+    let all : List ℕ = bs ++ rest in
+    let no : eqb (opening all .refused .number) 0 ≡ false = ne-eqb _ _ (long-refused all (omega (arith, length-append bs rest))) in
+    let number : seen all .refused .number ≡ opening all .refused .number = refused-shown all no in
+    rw (number, no) (ap (lineText (ascii "refused=")) (long-opening bs rest enough))
+
+-- ---- a byte 10 in one part or in the other
+pub end-append : (a b : List ℕ) → hasEnd (a ++ b) ≡ hasEnd a || hasEnd b
+unfolding hasEnd
+end-append a b =
+    by (ltb (before newline a) (length a))
+    (λ t. rw (t, before-in newline a b (ltb-true _ _ t)) (lt-ltb (before newline a) (length (a ++ b)) (omega (arith, length-append a b, ltb-true (before newline a) (length a) t))))
+    (λ t.
+    let free : Free newline a = omega (arith, before-le newline a, ltb-false (before newline a) (length a) t) in
+    rw (t, before-past newline a b free)
+    (by (ltb (before newline b) (length b))
+    (λ e. rw e (lt-ltb (length a + before newline b) (length (a ++ b)) (omega (arith, length-append a b, ltb-true (before newline b) (length b) e))))
+    (λ e. rw e (le-ltb (length a + before newline b) (length (a ++ b)) (omega (arith, length-append a b, ltb-false (before newline b) (length b) e))))))

@@ -1,0 +1,27 @@
+-- The points of what opening answers: a header that it gives is right, and beside a refusal the header is blank.
+use mathlib.Core.Bool.{Bool, true, false}
+use mathlib.Core.List.{List}
+use mathlib.Core.Path.{_≡_, refl}
+use Prim.Native.Nat.{ℕ, _≤_}
+use native.Mathlib.Omega.{arith}
+use borrow.Author.Tests.{eqb-true, eqb-false}
+use lib.Dec.{eqb}
+use Rattle.layers.specs.Limits.{pointsMost}
+use Rattle.layers.specs.Sheet.{points}
+use Rattle.layers.proofs.Accepting.{Sheet, accepted-yes}
+use Rattle.header.specs.Opening.{opening}
+use Rattle.header.proofs.HeaderLines.{Accepts}
+use Rattle.header.proofs.Opens.{opened-right}
+use Rattle.header.proofs.Refusing.{answers, refused-blank}
+use Rattle.header.proofs.Rightness.{right-yes}
+
+module _ (bs : List ℕ) where
+  pub opened-sheet : Accepts (opening bs) → Sheet (opening bs .header .shape)
+  opened-sheet e = accepted-yes (opening bs .header .shape) (right-yes (opening bs .header) (opened-right bs e .right-is) .shape)
+
+  pub opened-small : points (opening bs .header .shape) ≤ pointsMost
+  opened-small = by (eqb (opening bs .refused .number) 0) refl
+    where
+      by : (t : Bool) → eqb (opening bs .refused .number) 0 ≡ t → points (opening bs .header .shape) ≤ pointsMost
+      by true e = opened-sheet (eqb-true _ _ e) .small
+      by false e = rw (refused-blank (answers bs) (eqb-false _ _ e)) (omega arith)

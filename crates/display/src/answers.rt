@@ -1,0 +1,61 @@
+// What is to be printed: of a card that is all there, and of an input that is longer than any card.
+ghost use mathlib.Core.Path.{_≡_};
+ghost use Prim.Native.Nat.{_≤_};
+ghost use lib.IntN.{pos};
+ghost use lib.ListN.{replicate, take};
+ghost use Rattle.layers.specs.Limits.{pointsMost};
+ghost use Rattle.layers.specs.Sheet.{points};
+ghost use Rattle.header.specs.Opening as O;
+ghost use Rattle.display.specs.Shown as S;
+use crate::Shown;
+
+// What is shown of a card that is all there, with its values at the front of their slice.
+pub(crate) fn shown_of(bytes: &[u8], coefficients: &mut [i32], values: &mut [i64]) -> Shown
+    requires { ⌜ (now coefficients ≡ replicate pointsMost (pos 0)) × (now values ≡ replicate pointsMost (pos 0)) ⌝ }
+    ensures { λ r. ⌜ (r ≡ S.shownOf (now (bytes .entry))) × (take (points (r .shape)) (now (values .exit)) ≡ S.valuesOf (now (bytes .entry))) × (points (r .shape) ≤ pointsMost) ⌝ }
+{
+    let opened = header::open(bytes);
+    let header = opened.header;
+    let shape = header.shape;
+    let rows = shape.rows;
+    let cols = shape.cols;
+    let points = rows * cols;
+    let reached = card::show(bytes, &mut coefficients[..points], &mut values[..points]);
+    let refusal = reached.refusal;
+    let details = header::details_of(refusal);
+    let plan = reached.plan;
+    Shown {
+        number: details.number,
+        shape,
+        plan,
+        figure: reached.figure,
+    }
+}
+
+// The number of the refusal that opening gives.
+pub(crate) fn opening_number(bytes: &[u8]) -> u64
+    ensures { λ r. ⌜ r ≡ O.opening (now (bytes .entry)) .refused .number ⌝ }
+{
+    let opened = header::open(bytes);
+    let refusal = opened.refusal;
+    let details = header::details_of(refusal);
+    details.number
+}
+
+// Is there a byte 10?
+pub(crate) fn has_end(bytes: &[u8]) -> bool
+    ensures { λ r. ⌜ r ≡ S.hasEnd (now (bytes .entry)) ⌝ }
+{
+    text::find(bytes, 0, 10) < bytes.len()
+}
+
+// The number of the refusal of an input that is longer than any card: that of its first bytes, but for a line whose byte 10 comes later.
+pub(crate) fn long_number(number: u64, ends: bool) -> u64
+    ensures { λ r. ⌜ r ≡ S.longNumber number ends ⌝ }
+{
+    if number == 5 {
+        if ends { 6 } else { 5 }
+    } else {
+        number
+    }
+}

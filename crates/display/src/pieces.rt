@@ -1,0 +1,202 @@
+// The pieces of text, each made by putting text behind text.
+ghost use mathlib.Core.Path.{_≡_};
+ghost use mathlib.Core.List.{[]};
+ghost use Prim.Native.Nat.{_+_, _<_, _≤_};
+ghost use lib.IntN.{natAbs};
+ghost use lib.ListN.{length, take};
+ghost use Rattle.layers.specs.Limits.{layersMost, pointsMost};
+ghost use Rattle.text.specs.Decimal as T;
+ghost use Rattle.text.specs.Line as L;
+ghost use Rattle.header.specs.Header as Hd;
+ghost use Rattle.display.specs.Shown as S;
+use crate::Piece;
+use crate::Shown;
+use header::Plan;
+
+fn nothing() -> Piece
+    ensures { λ r. ⌜ S.Holds r [] ⌝ }
+{
+    Piece {
+        bytes: [0; 288],
+        length: 0,
+    }
+}
+
+// A piece with a text behind it.
+fn with_text(piece: Piece, text: &[u8]) -> Piece
+    requires { ⌜ piece .length + length (now text) ≤ S.pieceMost ⌝ }
+    ensures { λ r. ⌜ S.Extends piece (now (text .entry)) r ⌝ }
+{
+    let mut bytes = piece.bytes;
+    let at = piece.length;
+    for i in 0..text.len() {
+        bytes[at + i] = text[i];
+    }
+    Piece {
+        bytes,
+        length: at + text.len(),
+    }
+}
+
+// A piece with a number behind it.
+fn with_number(piece: Piece, n: u64) -> Piece
+    requires { ⌜ piece .length + S.digitsMost ≤ S.pieceMost ⌝ }
+    ensures { λ r. ⌜ S.Extends piece (T.digits n) r ⌝ }
+{
+    let text = text::to_decimal(n);
+    let bytes = text.bytes;
+    let length = text.length;
+    with_text(piece, &bytes[..length])
+}
+
+// A value without its sign.
+fn magnitude(value: i64) -> u64
+    ensures { λ r. ⌜ r ≡ natAbs value ⌝ }
+{
+    if value < 0 {
+        (-1 - value) as u64 + 1
+    } else {
+        value as u64
+    }
+}
+
+// A piece with a value behind it, a minus before a negative one.
+fn with_value(piece: Piece, value: i64) -> Piece
+    requires { ⌜ piece .length + 1 + S.digitsMost ≤ S.pieceMost ⌝ }
+    ensures { λ r. ⌜ S.Extends piece (S.signed value) r ⌝ }
+{
+    if value < 0 {
+        with_number(with_text(piece, b"-"), magnitude(value))
+    } else {
+        with_number(piece, magnitude(value))
+    }
+}
+
+// The line of a key and a number.
+pub(crate) fn line(key: &[u8], n: u64) -> Piece
+    requires { ⌜ length (now key) ≤ S.keyMost ⌝ }
+    ensures { λ r. ⌜ S.Holds r (L.lineText (now (key .entry)) n) ⌝ }
+{
+    with_text(with_number(with_text(nothing(), key), n), b"\n")
+}
+
+// The first `count` numbers, commas between.
+fn with_list(piece: Piece, numbers: [u64; 13], count: usize) -> Piece
+    requires { ⌜ (piece .length ≤ S.keyMost) × (0 < count) × (count ≤ layersMost) ⌝ }
+    ensures { λ r. ⌜ S.Extends piece (Hd.listText (take count numbers)) r ⌝ }
+{
+    let mut out = with_number(piece, numbers[0]);
+    for i in 1..count {
+        out = with_number(with_text(out, b","), numbers[i]);
+    }
+    out
+}
+
+// How many counts the line of planes has.
+fn listed(levels: usize) -> usize
+    ensures { λ r. ⌜ r ≡ Hd.listed levels ⌝ }
+{
+    if levels < 6 { 2 * levels + 1 } else { 13 }
+}
+
+// The line of the planes loaded.
+pub(crate) fn loaded_line(levels: usize, plan: Plan) -> Piece
+    ensures { λ r. ⌜ S.Holds r (S.loadedText levels plan) ⌝ }
+{
+    let planes = plan.planes;
+    let key = with_text(nothing(), b"loaded=");
+    with_text(with_list(key, planes, listed(levels)), b"\n")
+}
+
+// What stands before a value: the key of its line, where it is the first.
+fn row_start(column: usize) -> Piece
+    ensures { λ r. ⌜ S.Holds r (S.rowStart column) ⌝ }
+{
+    if column == 0 {
+        with_text(nothing(), b"row=")
+    } else {
+        nothing()
+    }
+}
+
+// What stands behind a value: a comma, or the line's end behind the last.
+fn with_end(piece: Piece, last: bool) -> Piece
+    requires { ⌜ piece .length + 1 ≤ S.pieceMost ⌝ }
+    ensures { λ r. ⌜ S.Extends piece (S.rowEnd last) r ⌝ }
+{
+    if last {
+        with_text(piece, b"\n")
+    } else {
+        with_text(piece, b",")
+    }
+}
+
+// Value i of a sheet of so many columns, with what stands before and behind it in its line; nothing where there is none.
+pub(crate) fn value_piece(values: &[i64], cols: usize, i: usize) -> Piece
+    ensures { λ r. ⌜ S.Holds r (S.valuePiece (now (values .entry)) cols i) ⌝ }
+{
+    if values.len() <= i {
+        return nothing();
+    }
+    if cols == 0 {
+        return nothing();
+    }
+    let column = i % cols;
+    let piece = with_value(row_start(column), values[i]);
+    with_end(piece, column + 1 == cols)
+}
+
+// The four lines before the values.
+fn sheet_line(shown: Shown, i: usize) -> Piece
+    ensures { λ r. ⌜ S.Holds r (S.sheetLine shown i) ⌝ }
+{
+    let shape = shown.shape;
+    let rows = shape.rows;
+    let cols = shape.cols;
+    let levels = shape.levels;
+    let plan = shown.plan;
+    if i == 0 {
+        return line(b"rows=", rows as u64);
+    }
+    if i == 1 {
+        return line(b"cols=", cols as u64);
+    }
+    if i == 2 {
+        return loaded_line(levels, plan);
+    }
+    line(b"figure=", shown.figure)
+}
+
+// The one line of a refused card.
+fn refused_line(number: u64, i: usize) -> Piece
+    ensures { λ r. ⌜ S.Holds r (S.refusedLine number i) ⌝ }
+{
+    if i == 0 {
+        line(b"refused=", number)
+    } else {
+        nothing()
+    }
+}
+
+// Piece i of the text that is printed; nothing past the last.
+pub fn piece_at(shown: Shown, values: &[i64], i: usize) -> Piece
+    ensures { λ r. ⌜ S.Holds r (S.pieceAt shown (now (values .entry)) i) ⌝ }
+{
+    let shape = shown.shape;
+    let cols = shape.cols;
+    if shown.number != 0 {
+        return refused_line(shown.number, i);
+    }
+    if 4 <= i {
+        return value_piece(values, cols, i - 4);
+    }
+    sheet_line(shown, i)
+}
+
+// How many pieces the text has.
+pub(crate) fn pieces(number: u64, values: &[i64]) -> usize
+    requires { ⌜ length (now values) ≤ pointsMost ⌝ }
+    ensures { λ r. ⌜ r ≡ S.pieces number (now (values .entry)) ⌝ }
+{
+    if number != 0 { 1 } else { 4 + values.len() }
+}
