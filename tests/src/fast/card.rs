@@ -1,0 +1,180 @@
+//! Writing, showing and refining.
+
+use super::header::{open, print};
+use super::layers::{quantize, rebuild, Grid};
+use super::planes::{gather, is_fine, load, put, spread, OFFSET, WORDS};
+use super::{refused, Header, Plan, CELL, PLACES};
+use crate::model::{Curve, Reached, Refusal};
+
+#[allow(clippy::too_many_arguments)]
+pub fn write(
+    samples: &[i32],
+    rows: u64,
+    cols: u64,
+    levels: u64,
+    curve: Curve,
+    step: u64,
+    coefficients: &mut [i32],
+    values: &mut [i64],
+    output: &mut [u8],
+) -> Result<u64, Refusal> {
+    if rows == 0 || cols == 0 || rows > 8192 || cols > 8192 || rows * cols > 8192 {
+        return refused(1);
+    }
+    if levels > 6 || step > 65_535 {
+        return refused(2);
+    }
+    let (rows, cols, levels) = (rows as usize, cols as usize, levels as usize);
+    let points = rows * cols;
+    if samples.len() != points
+        || coefficients.len() != points
+        || values.len() != points
+        || output.len() < 32_768
+    {
+        return refused(3);
+    }
+    if let Some(at) = samples
+        .iter()
+        .position(|x| !(-1_048_575..=1_048_575).contains(x))
+    {
+        return Err(Refusal {
+            number: 4,
+            details: [(at / cols) as u64, (at % cols) as u64],
+        });
+    }
+    quantize(
+        samples,
+        rows,
+        cols,
+        levels,
+        curve,
+        step,
+        coefficients,
+        values,
+    );
+    let mut words = [OFFSET as u32; WORDS];
+    let planes = gather(coefficients, rows, cols, levels, &mut words);
+    let mut header = Header {
+        rows,
+        cols,
+        levels,
+        curve,
+        step,
+        planes,
+        cells: 0,
+    };
+    let widths = header.widths();
+    header.cells = planes
+        .iter()
+        .zip(widths)
+        .map(|(&count, width)| count * width as u64)
+        .sum();
+    let length = print(&header, output);
+    let end = length + header.cells as usize * CELL;
+    put(&words, &planes, &widths, &mut output[length..end]);
+    Ok(end as u64)
+}
+
+/// The planes that are whole in the bytes behind the header.
+fn whole(header: &Header, body: &[u8]) -> Plan {
+    let widths = header.widths();
+    let mut whole = [0; super::LAYERS];
+    let mut end = 0;
+    for p in (0..PLACES).rev() {
+        for layer in 0..header.layers() {
+            if header.planes[layer] > p {
+                end += widths[layer] * CELL;
+                if end > body.len() {
+                    return whole;
+                }
+                whole[layer] += 1;
+            }
+        }
+    }
+    whole
+}
+
+pub fn show(card: &[u8], coefficients: &mut [i32], values: &mut [i64]) -> Result<Reached, Refusal> {
+    let (header, body) = open(card)?;
+    if coefficients.len() != header.points() || values.len() != header.points() {
+        return refused(3);
+    }
+    let plan = whole(&header, body);
+    let mut words = [0; WORDS];
+    load(&header, body, &plan, &mut words).map_err(|layer| Refusal::with(8, layer))?;
+    spread(&header, &words, coefficients);
+    rebuild(
+        coefficients,
+        header.rows,
+        header.cols,
+        header.levels,
+        header.curve,
+        header.step,
+        values,
+    );
+    Ok(Reached {
+        plan,
+        figure: header.figure(&plan),
+    })
+}
+
+pub fn refine(
+    card: &[u8],
+    plan: &Plan,
+    layer: u64,
+    coefficients: &mut [i32],
+    values: &mut [i64],
+) -> Result<Reached, Refusal> {
+    let (header, body) = open(card)?;
+    if coefficients.len() != header.points() || values.len() != header.points() {
+        return refused(3);
+    }
+    let whole = whole(&header, body);
+    if let Some(place) = (0..plan.len()).find(|&k| plan[k] > whole[k]) {
+        return Err(Refusal::with(9, place as u64));
+    }
+    let k = layer as usize;
+    if layer >= header.layers() as u64 || plan[k] == whole[k] {
+        return Err(Refusal::with(9, layer));
+    }
+    if coefficients
+        .iter()
+        .any(|q| !(-2_796_202..=5_592_405).contains(q))
+    {
+        return refused(11);
+    }
+    let p = header.planes[k] - plan[k] - 1;
+    let widths = header.widths();
+    let before: u64 = (0..header.layers())
+        .map(|j| widths[j] as u64 * header.planes[j].saturating_sub(if j < k { p } else { p + 1 }))
+        .sum();
+    let at = before as usize * CELL;
+    let plane = &body[at..at + widths[k] * CELL];
+    let grid = Grid::of(header.levels, k);
+    if !is_fine(
+        plane,
+        grid.size(header.rows, header.cols),
+        p + 1 == header.planes[k],
+    ) {
+        return Err(Refusal::with(8, layer));
+    }
+    let weight = if p % 2 == 0 { 1 << p } else { -(1 << p) };
+    for (i, at) in grid.places(header.rows, header.cols).enumerate() {
+        coefficients[at] += i32::from(plane[i / 8] >> (i % 8) & 1) * weight;
+    }
+    rebuild(
+        coefficients,
+        header.rows,
+        header.cols,
+        header.levels,
+        header.curve,
+        header.step,
+        values,
+    );
+    let mut reached = *plan;
+    reached[k] += 1;
+    Ok(Reached {
+        plan: reached,
+        figure: header.figure(&reached),
+    })
+}

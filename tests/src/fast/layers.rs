@@ -1,0 +1,151 @@
+//! Layers as grids: quantizing and rebuilding in place.
+
+use crate::model::Curve;
+
+/// The rows and columns of a layer, and the way its points look.
+#[derive(Clone, Copy)]
+pub struct Grid {
+    row: usize,
+    down: usize,
+    col: usize,
+    right: usize,
+    /// The distance to the neighbours; 0 for anchors.
+    spacing: usize,
+    across: bool,
+}
+
+impl Grid {
+    pub fn of(levels: usize, layer: usize) -> Grid {
+        let s = 1 << (levels - layer.div_ceil(2));
+        if layer == 0 {
+            return Grid {
+                row: 0,
+                down: s,
+                col: 0,
+                right: s,
+                spacing: 0,
+                across: false,
+            };
+        }
+        if layer % 2 == 1 {
+            return Grid {
+                row: 0,
+                down: 2 * s,
+                col: s,
+                right: 2 * s,
+                spacing: s,
+                across: true,
+            };
+        }
+        Grid {
+            row: s,
+            down: 2 * s,
+            col: 0,
+            right: s,
+            spacing: s,
+            across: false,
+        }
+    }
+
+    pub fn size(&self, rows: usize, cols: usize) -> usize {
+        let steps =
+            |first: usize, step: usize, end: usize| end.saturating_sub(first).div_ceil(step);
+        steps(self.row, self.down, rows) * steps(self.col, self.right, cols)
+    }
+
+    /// Every point's place in the sheet, in row order.
+    pub fn places(self, rows: usize, cols: usize) -> impl Iterator<Item = usize> {
+        (self.row..rows).step_by(self.down).flat_map(move |row| {
+            (self.col..cols)
+                .step_by(self.right)
+                .map(move |col| row * cols + col)
+        })
+    }
+}
+
+/// What is predicted at place t of a line of n points, `stride` apart; `at` is its index.
+#[inline(always)]
+fn predict(
+    values: &[i64],
+    cubic: bool,
+    at: usize,
+    stride: usize,
+    t: usize,
+    n: usize,
+    s: usize,
+) -> i64 {
+    let near = s * stride;
+    let b = values[at - near];
+    if t + s >= n {
+        return b;
+    }
+    let c = values[at + near];
+    if cubic && t >= 3 * s && t + 3 * s < n {
+        return (9 * (b + c) - values[at - 3 * near] - values[at + 3 * near]) >> 4;
+    }
+    (b + c) >> 1
+}
+
+/// Every point of the sheet, layer by layer, with what is predicted there.
+#[inline(always)]
+fn each_point(
+    rows: usize,
+    cols: usize,
+    levels: usize,
+    curve: Curve,
+    values: &mut [i64],
+    mut make: impl FnMut(usize, i64) -> i64,
+) {
+    let cubic = curve == Curve::Cubic;
+    for layer in 0..=2 * levels {
+        let g = Grid::of(levels, layer);
+        for row in (g.row..rows).step_by(g.down) {
+            for col in (g.col..cols).step_by(g.right) {
+                let at = row * cols + col;
+                let predicted = if g.spacing == 0 {
+                    0
+                } else if g.across {
+                    predict(values, cubic, at, 1, col, cols, g.spacing)
+                } else {
+                    predict(values, cubic, at, cols, row, rows, g.spacing)
+                };
+                values[at] = make(at, predicted);
+            }
+        }
+    }
+}
+
+#[allow(clippy::too_many_arguments)]
+pub fn quantize(
+    samples: &[i32],
+    rows: usize,
+    cols: usize,
+    levels: usize,
+    curve: Curve,
+    step: u64,
+    coefficients: &mut [i32],
+    values: &mut [i64],
+) {
+    let step = step as i64;
+    let width = 2 * step + 1;
+    each_point(rows, cols, levels, curve, values, |at, predicted| {
+        let q = (i64::from(samples[at]) - predicted + step).div_euclid(width);
+        coefficients[at] = q as i32;
+        predicted + q * width
+    });
+}
+
+pub fn rebuild(
+    coefficients: &[i32],
+    rows: usize,
+    cols: usize,
+    levels: usize,
+    curve: Curve,
+    step: u64,
+    values: &mut [i64],
+) {
+    let width = 2 * step as i64 + 1;
+    each_point(rows, cols, levels, curve, values, |at, predicted| {
+        predicted + i64::from(coefficients[at]) * width
+    });
+}

@@ -1,0 +1,85 @@
+//! The same calls as they would be written for speed in safe Rust: layers walked as grids,
+//! planes made and taken apart a byte at a time, nothing allocated. The benchmark sets the
+//! proved calls beside them; the tests hold them to the model first.
+
+mod card;
+mod header;
+mod layers;
+mod planes;
+mod planner;
+
+pub use card::{refine, show, write};
+pub use planner::{plan_by_cells, plan_by_limit};
+
+use crate::model::{Curve, Refusal};
+
+pub const LAYERS: usize = 13;
+pub const PLACES: u64 = 23;
+pub const CELL: usize = 32;
+
+pub type Plan = [u64; LAYERS];
+
+/// A header: what a card says of itself.
+#[derive(Clone, Copy)]
+pub struct Header {
+    pub rows: usize,
+    pub cols: usize,
+    pub levels: usize,
+    pub curve: Curve,
+    pub step: u64,
+    pub planes: Plan,
+    pub cells: u64,
+}
+
+impl Header {
+    pub fn points(&self) -> usize {
+        self.rows * self.cols
+    }
+
+    pub fn layers(&self) -> usize {
+        2 * self.levels + 1
+    }
+
+    /// Cells of one plane of a layer.
+    pub fn width(&self, layer: usize) -> usize {
+        layers::Grid::of(self.levels, layer)
+            .size(self.rows, self.cols)
+            .div_ceil(8 * CELL)
+    }
+
+    /// Cells of one plane of each layer, 0 past the last.
+    pub fn widths(&self) -> [usize; LAYERS] {
+        let mut widths = [0; LAYERS];
+        for (layer, width) in widths.iter_mut().enumerate().take(self.layers()) {
+            *width = self.width(layer);
+        }
+        widths
+    }
+
+    /// e plus the losses of the missing planes, carried through the layers.
+    pub fn figure(&self, plan: &Plan) -> u64 {
+        let mut standing = 0;
+        for layer in 0..self.layers() {
+            let missing = self.planes[layer] - plan[layer];
+            if self.width(layer) > 0 {
+                standing = self.carry(standing) + self.charge(missing);
+            }
+        }
+        self.step + standing
+    }
+
+    pub fn carry(&self, standing: u64) -> u64 {
+        match self.curve {
+            Curve::Linear => standing,
+            Curve::Cubic => (5 * standing).div_ceil(4),
+        }
+    }
+
+    pub fn charge(&self, missing: u64) -> u64 {
+        (2 << missing) / 3 * (2 * self.step + 1)
+    }
+}
+
+fn refused<T>(number: u64) -> Result<T, Refusal> {
+    Err(Refusal::plain(number))
+}

@@ -1,0 +1,101 @@
+//! Planning by a table: the least that the first k layers can stand at in exactly c cells.
+
+use super::header::open;
+use super::{refused, Header, Plan, LAYERS};
+use crate::model::{Planned, Refusal};
+
+const ROW: usize = 1013;
+const NONE: u64 = 1 << 60;
+
+struct Table {
+    least: [[u64; ROW]; LAYERS + 1],
+    widths: [usize; LAYERS],
+}
+
+/// What stands after a layer of which so many planes are loaded.
+fn after(header: &Header, empty: bool, layer: usize, loaded: u64, standing: u64) -> u64 {
+    let own = header.charge(header.planes[layer] - loaded);
+    if empty {
+        standing + own
+    } else {
+        header.carry(standing) + own
+    }
+}
+
+fn fill(header: &Header) -> Table {
+    let mut table = Table {
+        least: [[NONE; ROW]; LAYERS + 1],
+        widths: header.widths(),
+    };
+    table.least[0][0] = 0;
+    let mut reach = 0;
+    for layer in 0..LAYERS {
+        let width = table.widths[layer];
+        let (before, after_it) = table.least.split_at_mut(layer + 1);
+        let (from, to) = (&before[layer], &mut after_it[0]);
+        for loaded in 0..=header.planes[layer] {
+            let used = loaded as usize * width;
+            let row = to[used..=used + reach].iter_mut();
+            for (entry, &standing) in row.zip(&from[..=reach]) {
+                *entry = (*entry).min(after(header, width == 0, layer, loaded, standing));
+            }
+        }
+        reach += header.planes[layer] as usize * width;
+    }
+    table
+}
+
+/// The plan in so many cells, from the last layer backwards with the fewest planes.
+fn trace(header: &Header, table: &Table, mut cells: usize) -> Plan {
+    let mut plan = [0; LAYERS];
+    for layer in (0..LAYERS).rev() {
+        let width = table.widths[layer];
+        let standing = table.least[layer + 1][cells];
+        plan[layer] = (0..=header.planes[layer])
+            .find(|&loaded| {
+                let used = loaded as usize * width;
+                used <= cells
+                    && after(
+                        header,
+                        width == 0,
+                        layer,
+                        loaded,
+                        table.least[layer][cells - used],
+                    ) == standing
+            })
+            .expect("an entry comes from some count");
+        cells -= plan[layer] as usize * width;
+    }
+    plan
+}
+
+fn planned(header: &Header, table: &Table, cells: usize) -> Planned {
+    Planned {
+        plan: trace(header, table, cells),
+        cells: cells as u64,
+        figure: header.step + table.least[LAYERS][cells],
+    }
+}
+
+pub fn plan_by_limit(card: &[u8], limit: u64) -> Result<Planned, Refusal> {
+    let (header, _) = open(card)?;
+    if limit < header.step {
+        return refused(10);
+    }
+    let room = (limit - header.step).min(NONE - 1);
+    let table = fill(&header);
+    let cells = table.least[LAYERS]
+        .iter()
+        .position(|&standing| standing <= room);
+    Ok(planned(&header, &table, cells.expect("all planes meet it")))
+}
+
+pub fn plan_by_cells(card: &[u8], most: u64) -> Result<Planned, Refusal> {
+    let (header, _) = open(card)?;
+    let table = fill(&header);
+    let row = &table.least[LAYERS][..=most.min(ROW as u64 - 1) as usize];
+    let cells = (0..row.len())
+        .min_by_key(|&cells| row[cells])
+        .expect("a row has entries");
+    Ok(planned(&header, &table, cells))
+}

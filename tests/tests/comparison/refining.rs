@@ -1,0 +1,145 @@
+//! Lists of refinements, refused ones among them.
+
+use super::both::{reach, written, Call, Slices};
+use trace_card_tests::boundary::PLAN;
+use trace_card_tests::model::{open, Plan};
+use trace_card_tests::random::cases::{Case, LARGE_SIZES};
+use trace_card_tests::random::Random;
+
+/// Refines in turn from a reading of no planes. "In a list of refinements each call takes the
+/// plan and the slices that the last accepted call left." Afterwards all is as one reading with
+/// the planes reached leaves it. Answers how many calls were accepted.
+fn refine_in_turn(random: &mut Random, card: &[u8], points: usize, calls: usize) -> usize {
+    let mut slices = Slices::new(points);
+    let mut plan: Plan = [0; PLAN];
+    let Ok(mut reached) = reach(card, Call::Read(&plan), &mut slices) else {
+        return 0;
+    };
+    let mut accepted = 0;
+    for _ in 0..calls {
+        let layer = match random.below(20) {
+            0 => random.draw(),
+            _ => random.below(14),
+        };
+        if let Ok(now) = reach(card, Call::Refine(&plan, layer), &mut slices) {
+            reached = now;
+            plan = now.plan;
+            accepted += 1;
+        }
+    }
+    let mut fresh = Slices::new(points);
+    let once = reach(card, Call::Read(&plan), &mut fresh);
+    assert_eq!((once, fresh), (Ok(reached), slices));
+    accepted
+}
+
+#[test]
+fn small_cards_whole_and_cut() {
+    let mut random = Random::new(521);
+    let mut accepted = 0;
+    for _ in 0..400 {
+        let case = Case::small(&mut random);
+        let card = written(&case);
+        let header = open(&card).unwrap().header_length;
+        let length = header + random.below((card.len() - header) as u64 + 1) as usize;
+        let cut = if random.once_in(2) {
+            length
+        } else {
+            card.len()
+        };
+        accepted += refine_in_turn(&mut random, &card[..cut], case.count(), 30);
+    }
+    assert!(accepted > 1000, "{accepted}");
+}
+
+/// A damaged plane is met when it is asked for, and refused each time.
+#[test]
+fn damaged_cards() {
+    let mut random = Random::new(522);
+    for _ in 0..200 {
+        let case = Case::small(&mut random);
+        let mut card = written(&case);
+        let header = open(&card).unwrap().header_length;
+        if card.len() > header {
+            let place = header + random.below((card.len() - header) as u64) as usize;
+            card[place] ^= 1 << random.below(8);
+        }
+        refine_in_turn(&mut random, &card, case.count(), 30);
+    }
+}
+
+#[test]
+fn the_largest_cards() {
+    let mut random = Random::new(523);
+    for (rows, cols) in LARGE_SIZES {
+        let case = Case::of_size(&mut random, rows, cols);
+        let card = written(&case);
+        refine_in_turn(&mut random, &card, case.count(), 12);
+    }
+}
+
+/// Coefficients that no reading made, at the ends of 23 digits and past them.
+#[test]
+fn coefficients_made_up() {
+    let mut random = Random::new(524);
+    let ends = [
+        -2_796_202,
+        -2_796_203,
+        5_592_405,
+        5_592_406,
+        0,
+        1,
+        i32::MAX,
+        i32::MIN,
+    ];
+    let (mut past, mut taken) = (0, 0);
+    for _ in 0..1500 {
+        let case = Case::small(&mut random);
+        let card = written(&case);
+        let opened = open(&card).unwrap();
+        let mut plan: Plan = [0; PLAN];
+        for (place, &planes) in opened.planes.iter().enumerate() {
+            plan[place] = random.below(planes + 1);
+        }
+        let held = random.once_in(2);
+        let coefficients: Vec<i32> = (0..case.count())
+            .map(|_| match random.below(12) {
+                0 if !held => random.pick(&ends),
+                1 => random.pick(&[-2_796_202, 5_592_405]),
+                _ => random.between(-2_796_202, 5_592_405) as i32,
+            })
+            .collect();
+        let layer = random.below(opened.planes.len() as u64 + 1);
+        let mut slices = Slices::holding(&coefficients);
+        match reach(&card, Call::Refine(&plan, layer), &mut slices) {
+            Ok(_) => taken += 1,
+            Err(refusal) => past += u64::from(refusal.number == 11),
+        }
+    }
+    assert!(past > 100 && taken > 100, "{past} {taken}");
+}
+
+/// Plans that ask too much, and slices of other lengths.
+#[test]
+fn plans_and_lengths() {
+    let mut random = Random::new(525);
+    for _ in 0..600 {
+        let case = Case::small(&mut random);
+        let card = written(&case);
+        let mut plan: Plan = [0; PLAN];
+        plan[random.below(13) as usize] = random.pick(&[1, 22, 23, 24, u64::MAX]);
+        let layer = random.pick(&[0, 1, 12, 13, u64::MAX]);
+        let _ = reach(
+            &card,
+            Call::Refine(&plan, layer),
+            &mut Slices::new(case.count()),
+        );
+        let mut short = Slices::of_lengths(case.count(), case.count() - 1);
+        assert_eq!(
+            reach(&card, Call::Refine(&plan, layer), &mut short)
+                .unwrap_err()
+                .number,
+            3
+        );
+    }
+}
