@@ -6,12 +6,16 @@ mod refining;
 mod words;
 mod writing;
 
+use header::CELL_POINTS;
 use header::Plan;
 use header::Refusal;
 pub use reading::read;
 pub use reading::show;
 pub use refining::refine;
 pub use writing::write;
+
+// Room for the words of all layers, each in whole cells: one plane of every layer is at most 44 cells.
+pub(crate) const MOST_WORDS: usize = 44 * CELL_POINTS;
 
 // What writing answers: the card's length; 0 beside a refusal.
 pub struct Written {

@@ -12,8 +12,15 @@ ghost use Rattle.card.specs.Planes as P;
 ghost use Rattle.card.specs.Reading as R;
 ghost use Rattle.card.specs.Words as W;
 use crate::Loaded;
+use header::CELL_BYTES;
+use header::CELL_POINTS;
 use header::Header;
+use header::MOST_PLACES;
 use header::Plan;
+
+const PLACES: usize = MOST_PLACES as usize;
+
+const LAST_PLACE: usize = PLACES - 1;
 
 // Is every byte of a range 0?
 fn all_zero(bytes: &[u8], from: usize, to: usize) -> bool
@@ -35,7 +42,7 @@ fn spare_zero(bytes: &[u8], from: usize, n: usize, cells: usize) -> bool
     requires { ⌜ (n ≤ Hd.cellPoints * cells) × (cells ≤ W.wordsMost) × (from + Hd.cellBytes * cells ≤ length (now bytes)) ⌝ }
     ensures { λ r. ⌜ r ≡ P.allBelow (λ i. ltb i n || eqb (W.bitAt (now (bytes .entry)) from i) 0) (Hd.cellPoints * cells) ⌝ }
 {
-    let end = from + 32 * cells;
+    let end = from + CELL_BYTES * cells;
     let part = from + n / 8;
     if n % 8 == 0 {
         return all_zero(bytes, part, end);
@@ -55,7 +62,7 @@ pub(crate) fn is_fine(bytes: &[u8], from: usize, n: usize, cells: usize, top: bo
         return false;
     }
     if top {
-        return !all_zero(bytes, from, from + 32 * cells);
+        return !all_zero(bytes, from, from + CELL_BYTES * cells);
     }
     true
 }
@@ -77,7 +84,7 @@ fn add_plane(bytes: &[u8], from: usize, cells: usize, p: u64, words: &mut [u32],
     requires { ⌜ ((i : ℕ) → getD (now words) i 0 < 2 ^ 30) ⌝ }
     ensures { λ _. ⌜ now (words .exit) ≡ W.withPlane (now (words .entry)) start (Hd.cellPoints * cells) p (W.bitAt (now (bytes .entry)) from) ⌝ }
 {
-    let n = 32 * cells;
+    let n = CELL_BYTES * cells;
     for b in 0..n {
         add_byte(bytes[from + b], p, words, start + 8 * b);
     }
@@ -118,7 +125,7 @@ fn behind(from: usize, cells: usize, count: u64, p: u64) -> usize
     ensures { λ r. ⌜ r ≡ from + cond (ltb p count) (Hd.cellBytes * cells) 0 ⌝ }
 {
     if p < count {
-        return from + 32 * cells;
+        return from + CELL_BYTES * cells;
     }
     from
 }
@@ -149,11 +156,11 @@ pub(crate) fn load_body(
     let counts = header.planes;
     let wanted = plan.planes;
     let layers = 1 + 2 * shape.levels;
-    let slots = 23 * layers;
+    let slots = PLACES * layers;
     let mut from = at;
     let mut start: usize = 0;
     for t in 0..slots {
-        let p = (22 - t / layers) as u64;
+        let p = (LAST_PLACE - t / layers) as u64;
         let k = t % layers;
         let n = layers::layer_size(shape, k);
         let cells = header::plane_cells(shape, k) as usize;
@@ -162,7 +169,7 @@ pub(crate) fn load_body(
             return Loaded::Bad(k);
         }
         from = behind(from, cells, counts[k], p);
-        start = first + 256 * cells;
+        start = first + CELL_POINTS * cells;
     }
     Loaded::Fine
 }

@@ -8,6 +8,10 @@ ghost use Rattle.layers.specs.Sheet as S;
 ghost use Rattle.header.specs.Header as Hd;
 ghost use Rattle.card.specs.Planes as P;
 ghost use Rattle.card.specs.Words as W;
+use header::CELL_BYTES;
+use header::CELL_POINTS;
+use header::MOST_PLACES;
+use layers::MOST_LAYERS;
 use layers::Shape;
 
 // Bit p of eight words as a byte, the first word lowest.
@@ -36,7 +40,7 @@ fn put_plane(words: &[u32], start: usize, cells: usize, p: u64, out: &mut [u8], 
     requires { ⌜ (p < Hd.placesMost) × (cells ≤ W.wordsMost) × (start + Hd.cellPoints * cells ≤ length (now words)) × (at + Hd.cellBytes * cells ≤ length (now out)) ⌝ }
     ensures { λ r. ⌜ (r ≡ at + Hd.cellBytes * cells) × (now (out .exit) ≡ sets (now (out .entry)) at (W.flatPlane (now (words .entry)) start cells p)) ⌝ }
 {
-    let bytes = 32 * cells;
+    let bytes = CELL_BYTES * cells;
     for b in 0..bytes {
         out[at + b] = eight_digits(words, start + 8 * b, p);
     }
@@ -47,7 +51,7 @@ fn put_plane(words: &[u32], start: usize, cells: usize, p: u64, out: &mut [u8], 
 fn put_place(
     words: &[u32],
     shape: Shape,
-    planes: [u64; 13],
+    planes: [u64; MOST_LAYERS],
     p: u64,
     out: &mut [u8],
     at: usize,
@@ -64,16 +68,16 @@ fn put_place(
         if p < planes[k] {
             to = put_plane(words, start, cells, p, out, to);
         }
-        start += 256 * cells;
+        start += CELL_POINTS * cells;
     }
     to
 }
 
-// All planes in card order, from place 22 down; answers the byte after them.
+// All planes in card order, from the highest place down; answers the byte after them.
 pub(crate) fn put_body(
     words: &[u32],
     shape: Shape,
-    planes: [u64; 13],
+    planes: [u64; MOST_LAYERS],
     out: &mut [u8],
     at: usize,
 ) -> usize
@@ -81,7 +85,7 @@ pub(crate) fn put_body(
     requires { ⌜ at + length (W.flatDown shape planes (now words) Hd.placesMost) ≤ length (now out) ⌝ }
     ensures { λ r. ⌜ (r ≡ at + length (W.flatDown shape planes (now (words .entry)) Hd.placesMost)) × (now (out .exit) ≡ sets (now (out .entry)) at (W.flatDown shape planes (now (words .entry)) Hd.placesMost)) ⌝ }
 {
-    let mut left: u64 = 23;
+    let mut left = MOST_PLACES;
     let mut to = at;
     while 0 < left {
         left -= 1;

@@ -11,19 +11,23 @@ ghost use Rattle.header.specs.CardOrder as K;
 ghost use Rattle.card.specs.Reading as R;
 ghost use Rattle.card.specs.Words as W;
 use crate::Loaded;
+use crate::MOST_WORDS;
 use crate::Reached;
 use crate::loading::load_body;
 use crate::words::spread;
 use header::Header;
 use header::Plan;
 use header::Refusal;
+use layers::MOST_LAYERS;
 
 pub(crate) fn refused(refusal: Refusal) -> Reached
     ensures { λ r. ⌜ r ≡ R.notReached refusal ⌝ }
 {
     Reached {
         refusal,
-        plan: Plan { planes: [0; 13] },
+        plan: Plan {
+            planes: [0; MOST_LAYERS],
+        },
         figure: 0,
     }
 }
@@ -85,10 +89,10 @@ fn read_opened(
     let limit = whole.planes;
     let wanted = plan.planes;
     let place = header::first_over(limit, wanted);
-    if place < 13 {
+    if place < MOST_LAYERS {
         return refused(Refusal::BadPlan(place as u64));
     }
-    let mut words = [0u32; 11264];
+    let mut words = [0u32; MOST_WORDS];
     read_planes(&mut words, bytes, header, at, plan, coefficients, values)
 }
 

@@ -17,10 +17,17 @@ ghost use Rattle.card.specs.Words as W;
 use crate::Reached;
 use crate::loading::is_fine;
 use crate::reading::refused;
+use header::CELL_BYTES;
 use header::Header;
 use header::Plan;
 use header::Refusal;
+use layers::MOST_LAYERS;
 use layers::Shape;
+
+// "23 digits reach from -2,796,202 to 5,592,405"
+const LEAST_COEFFICIENT: i32 = -2796202;
+
+const MOST_COEFFICIENT: i32 = 5592405;
 
 // Is every coefficient one of 23 digits?
 fn all_held(coefficients: &[i32]) -> bool
@@ -28,10 +35,10 @@ fn all_held(coefficients: &[i32]) -> bool
 {
     for j in 0..coefficients.len() {
         let q = coefficients[j];
-        if q < -2796202 {
+        if q < LEAST_COEFFICIENT {
             return false;
         }
-        if 5592405 < q {
+        if MOST_COEFFICIENT < q {
             return false;
         }
     }
@@ -106,7 +113,7 @@ fn refine_plane(
     let loaded = plan.planes;
     let p = counts[layer] - loaded[layer] - 1;
     let cells = header::plane_cells(shape, layer) as usize;
-    let from = at + 32 * header::cells_before(header, layer, p) as usize;
+    let from = at + CELL_BYTES * header::cells_before(header, layer, p) as usize;
     let n = layers::layer_size(shape, layer);
     if !is_fine(bytes, from, n, cells, p + 1 == counts[layer]) {
         return refused(Refusal::BadPlane(layer as u64));
@@ -149,7 +156,7 @@ fn refine_opened(
     let limit = whole.planes;
     let wanted = plan.planes;
     let place = header::first_over(limit, wanted);
-    if place < 13 {
+    if place < MOST_LAYERS {
         return refused(Refusal::BadPlan(place as u64));
     }
     let last = (2 * levels) as u64;

@@ -11,16 +11,20 @@ ghost use Rattle.layers.specs.Sheet as S;
 ghost use Rattle.header.specs.Header as Hd;
 ghost use Rattle.card.specs.Planes as P;
 ghost use Rattle.card.specs.Words as W;
+use header::CELL_POINTS;
+use layers::MOST_LAYERS;
 use layers::Shape;
 
-const OFFSET: u32 = 2796202;
+pub(crate) const OFFSET: u32 = 2796202;
+
+const SIGNED_OFFSET: i32 = OFFSET as i32;
 
 // The word of a coefficient.
 fn word_of(q: i32) -> u32
     requires { ⌜ holds Hd.placesMost q ≡ true ⌝ }
     ensures { λ r. ⌜ r ≡ W.wordOf q ⌝ }
 {
-    (q + 2796202) as u32
+    (q + SIGNED_OFFSET) as u32
 }
 
 // The words of one layer in row order, from `start` on.
@@ -55,7 +59,7 @@ pub(crate) fn gather(coefficients: &[i32], shape: Shape, words: &mut [u32])
     let mut start: usize = 0;
     for k in 0..layers {
         gather_layer(coefficients, shape, k, words, start);
-        start += 256 * header::plane_cells(shape, k) as usize;
+        start += CELL_POINTS * header::plane_cells(shape, k) as usize;
     }
 }
 
@@ -81,17 +85,17 @@ fn count_of(words: &[u32], start: usize, n: usize) -> u64
 }
 
 // The counts of the header: the fewest digits of each layer, 0 past the last.
-pub(crate) fn counts(words: &[u32], shape: Shape) -> [u64; 13]
+pub(crate) fn counts(words: &[u32], shape: Shape) -> [u64; MOST_LAYERS]
     requires { ⌜ S.accepted shape ≡ true ⌝ }
     requires { ⌜ (length (now words) ≡ W.wordsMost) × ((i : ℕ) → getD (now words) i 0 < 2 ^ Hd.placesMost) ⌝ }
     ensures { λ r. ⌜ r ≡ tabulate layersMost (W.countAt shape (now (words .entry))) ⌝ }
 {
     let layers = 1 + 2 * shape.levels;
-    let mut planes = [0u64; 13];
+    let mut planes = [0u64; MOST_LAYERS];
     let mut start: usize = 0;
     for k in 0..layers {
         planes[k] = count_of(words, start, layers::layer_size(shape, k));
-        start += 256 * header::plane_cells(shape, k) as usize;
+        start += CELL_POINTS * header::plane_cells(shape, k) as usize;
     }
     planes
 }
@@ -128,6 +132,6 @@ pub(crate) fn spread(words: &[u32], shape: Shape, coefficients: &mut [i32])
     let mut start: usize = 0;
     for k in 0..layers {
         spread_layer(words, start, shape, k, coefficients);
-        start += 256 * header::plane_cells(shape, k) as usize;
+        start += CELL_POINTS * header::plane_cells(shape, k) as usize;
     }
 }

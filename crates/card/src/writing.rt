@@ -13,16 +13,24 @@ ghost use Rattle.header.specs.Header as Hd;
 ghost use Rattle.card.specs.Planes as P;
 ghost use Rattle.card.specs.Words as W;
 ghost use Rattle.card.specs.Writing as Wr;
+use crate::MOST_WORDS;
 use crate::Written;
 use crate::putting::put_body;
+use crate::words::OFFSET;
 use crate::words::counts;
 use crate::words::gather;
 use header::Header;
 use header::HeaderText;
 use header::Refusal;
 use layers::Curve;
+use layers::MOST_LEVELS;
+use layers::MOST_POINTS;
+use layers::MOST_STEP;
 use layers::Quantized;
 use layers::Shape;
+
+// "output under 32,768 bytes"
+const LEAST_OUTPUT: usize = 32768;
 
 fn refused(refusal: Refusal) -> Written
     ensures { λ r. ⌜ (r .refusal ≡ refusal) × (r .length ≡ 0) ⌝ }
@@ -37,10 +45,10 @@ fn bad_size(rows: usize, cols: usize) -> bool
     if rows == 0 || cols == 0 {
         return true;
     }
-    if 8192 < rows || 8192 < cols {
+    if MOST_POINTS < rows || MOST_POINTS < cols {
         return true;
     }
-    8192 < rows * cols
+    MOST_POINTS < rows * cols
 }
 
 // Puts the header's text at the front of the output.
@@ -100,14 +108,14 @@ pub fn write(
     if bad_size(rows, cols) {
         return refused(Refusal::BadSize);
     }
-    if 6 < levels || 65535 < step {
+    if MOST_LEVELS < levels || MOST_STEP < step {
         return refused(Refusal::BadSettings);
     }
     let points = rows * cols;
     if samples.len() != points || coefficients.len() != points {
         return refused(Refusal::BadLengths);
     }
-    if values.len() != points || output.len() < 32768 {
+    if values.len() != points || output.len() < LEAST_OUTPUT {
         return refused(Refusal::BadLengths);
     }
     let shape = Shape { rows, cols, levels };
@@ -118,7 +126,7 @@ pub fn write(
             col: col as u64,
         }),
         Quantized::Done => {
-            let mut words = [2796202u32; 11264];
+            let mut words = [OFFSET; MOST_WORDS];
             let length = write_card(&mut words, coefficients, shape, curve, step, output);
             Written {
                 refusal: Refusal::Accepted,

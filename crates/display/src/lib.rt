@@ -8,9 +8,12 @@ use layers::Shape;
 pub use pieces::piece_at;
 pub use printing::show;
 
+// Room for the longest piece, which is the line of planes.
+pub const MOST_PIECE: usize = 288;
+
 // A piece of the text: the first `length` of the bytes.
 pub struct Piece {
-    pub bytes: [u8; 288],
+    pub bytes: [u8; MOST_PIECE],
     pub length: usize,
 }
 

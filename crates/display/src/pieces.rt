@@ -9,15 +9,18 @@ ghost use Rattle.text.specs.Decimal as T;
 ghost use Rattle.text.specs.Line as L;
 ghost use Rattle.header.specs.Header as Hd;
 ghost use Rattle.display.specs.Shown as S;
+use crate::MOST_PIECE;
 use crate::Piece;
 use crate::Shown;
 use header::Plan;
+use layers::MOST_LAYERS;
+use layers::MOST_LEVELS;
 
 fn nothing() -> Piece
     ensures { λ r. ⌜ S.Holds r [] ⌝ }
 {
     Piece {
-        bytes: [0; 288],
+        bytes: [0; MOST_PIECE],
         length: 0,
     }
 }
@@ -81,7 +84,7 @@ pub(crate) fn line(key: &[u8], n: u64) -> Piece
 }
 
 // The first `count` numbers, commas between.
-fn with_list(piece: Piece, numbers: [u64; 13], count: usize) -> Piece
+fn with_list(piece: Piece, numbers: [u64; MOST_LAYERS], count: usize) -> Piece
     requires { ⌜ (piece .length ≤ S.keyMost) × (0 < count) × (count ≤ layersMost) ⌝ }
     ensures { λ r. ⌜ S.Extends piece (Hd.listText (take count numbers)) r ⌝ }
 {
@@ -96,7 +99,11 @@ fn with_list(piece: Piece, numbers: [u64; 13], count: usize) -> Piece
 fn listed(levels: usize) -> usize
     ensures { λ r. ⌜ r ≡ Hd.listed levels ⌝ }
 {
-    if levels < 6 { 2 * levels + 1 } else { 13 }
+    if levels < MOST_LEVELS {
+        2 * levels + 1
+    } else {
+        MOST_LAYERS
+    }
 }
 
 // The line of the planes loaded.

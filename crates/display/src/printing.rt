@@ -14,7 +14,13 @@ use crate::answers::shown_of;
 use crate::pieces::line;
 use crate::pieces::piece_at;
 use crate::pieces::pieces;
+use layers::MOST_POINTS;
 use libc::STDOUT_FILENO;
+
+// More than any card has, and how much is looked at in one turn behind it.
+const BUFFER: usize = 40000;
+
+const CHUNK: usize = 4096;
 
 fn write(piece: Piece)
     requires { ⌜ piece .length ≤ S.pieceMost ⌝ }
@@ -47,8 +53,8 @@ fn show_in(bytes: &[u8], coefficients: &mut [i32], values: &mut [i64])
 
 // Shows a card that is all there.
 fn show_bytes(bytes: &[u8]) {
-    let mut coefficients = [0i32; 8192];
-    let mut values = [0i64; 8192];
+    let mut coefficients = [0i32; MOST_POINTS];
+    let mut values = [0i64; MOST_POINTS];
     show_in(bytes, &mut coefficients, &mut values);
 }
 
@@ -60,12 +66,12 @@ enum Ahead {
 }
 
 fn look(file: i32) -> Ahead {
-    let mut buffer = [0u8; 4096];
+    let mut buffer = [0u8; CHUNK];
     let n = io::read_full(file, &mut buffer);
     if has_end(&buffer[..n]) {
         return Ahead::End;
     }
-    if n < 4096 {
+    if n < CHUNK {
         Ahead::Nothing
     } else {
         Ahead::More
@@ -94,9 +100,9 @@ fn show_long(bytes: &[u8], file: i32) {
 
 // Shows the card that a file holds, of any length: a card has at most 32,768 bytes, so what does not end in the buffer is refused.
 pub fn show(file: i32) {
-    let mut buffer = [0u8; 40000];
+    let mut buffer = [0u8; BUFFER];
     let n = io::read_full(file, &mut buffer);
-    if n < 40000 {
+    if n < BUFFER {
         show_bytes(&buffer[..n]);
         return;
     }

@@ -19,6 +19,7 @@ use crate::opening::open;
 use crate::planes::first_over;
 use crate::planes::is_right;
 use layers::Curve;
+use layers::MOST_LAYERS;
 use layers::Shape;
 
 // What d missing digits can lose.
@@ -71,7 +72,7 @@ pub fn error_bound(header: Header, plan: Plan) -> u64
     }
     let counts = header.planes;
     let loaded = plan.planes;
-    if first_over(counts, loaded) < 13 {
+    if first_over(counts, loaded) < MOST_LAYERS {
         return 0;
     }
     figure_of(header, plan)
@@ -89,7 +90,7 @@ pub fn figure(bytes: &[u8], plan: Plan) -> Bounded
             let counts = header.planes;
             let loaded = plan.planes;
             let place = first_over(counts, loaded);
-            if place < 13 {
+            if place < MOST_LAYERS {
                 return Bounded {
                     refusal: Refusal::BadPlan(place as u64),
                     figure: 0,

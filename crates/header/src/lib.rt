@@ -11,6 +11,7 @@ mod printing;
 pub use bound::error_bound;
 pub use bound::figure;
 use layers::Curve;
+use layers::MOST_LAYERS;
 use layers::Shape;
 pub use opening::open;
 pub use planes::cells_before;
@@ -20,6 +21,18 @@ pub use planes::plane_cells;
 pub use planes::total_cells;
 pub use planes::whole_planes;
 pub use printing::header_text;
+
+// Document 01's sizes of a card: digits of a coefficient, the bytes of a cell and the points that it holds, the most cells (one plane
+// of every layer is at most 44), and room for any header's text.
+pub const MOST_PLACES: u64 = 23;
+
+pub const CELL_BYTES: usize = 32;
+
+pub const CELL_POINTS: usize = 8 * CELL_BYTES;
+
+pub const MOST_CELLS: usize = MOST_PLACES as usize * 44;
+
+pub const MOST_TEXT: usize = 512;
 
 // Document 01's refusals; `details_of` gives their numbers.
 pub enum Refusal {
@@ -46,14 +59,14 @@ pub struct Details {
 
 // Planes loaded from the top, for each layer; 0 past the last.
 pub struct Plan {
-    pub planes: [u64; 13],
+    pub planes: [u64; MOST_LAYERS],
 }
 
 pub struct Header {
     pub shape: Shape,
     pub curve: Curve,
     pub step: u64,
-    pub planes: [u64; 13],
+    pub planes: [u64; MOST_LAYERS],
     pub cells: u64,
 }
 
@@ -72,14 +85,14 @@ pub struct Bounded {
 
 // The text of a header: the first `length` of the bytes.
 pub struct HeaderText {
-    pub bytes: [u8; 512],
+    pub bytes: [u8; MOST_TEXT],
     pub length: usize,
 }
 
 // The counts of a line of planes, if it is right.
 pub struct Counts {
     pub right: bool,
-    pub planes: [u64; 13],
+    pub planes: [u64; MOST_LAYERS],
 }
 
 pub fn details_of(refusal: Refusal) -> Details
@@ -154,7 +167,7 @@ impl Plan {
     pub fn with_plane(self, layer: usize) -> Plan
         ensures { λ r. ⌜ r ≡ P.withPlane self layer ⌝ }
     {
-        if 13 <= layer {
+        if MOST_LAYERS <= layer {
             return self;
         }
         let mut next = self;

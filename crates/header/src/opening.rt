@@ -7,6 +7,7 @@ ghost use Rattle.layers.specs.Limits.{pointsMost};
 ghost use Rattle.layers.specs.Sheet as S;
 ghost use Rattle.header.specs.Refusals as R;
 ghost use Rattle.header.specs.Opening as O;
+use crate::CELL_BYTES;
 use crate::Counts;
 use crate::Header;
 use crate::Opened;
@@ -14,6 +15,10 @@ use crate::Refusal;
 use crate::planes::cells_of;
 use crate::planes::planes_most;
 use layers::Curve;
+use layers::MOST_LAYERS;
+use layers::MOST_LEVELS;
+use layers::MOST_POINTS;
+use layers::MOST_STEP;
 use layers::Shape;
 use text::Line;
 use text::Number;
@@ -31,7 +36,7 @@ fn refused(refusal: Refusal) -> Opened
             },
             curve: Curve::Linear,
             step: 0,
-            planes: [0; 13],
+            planes: [0; MOST_LAYERS],
             cells: 0,
         },
         length: 0,
@@ -49,7 +54,7 @@ fn open_cells(bytes: &[u8], header: Header, at: usize) -> Opened
         Line::Wrong => refused(Refusal::BadLine(7)),
         Line::Number { value: _, length } => {
             let end = at + length;
-            if 32 * (cells as usize) < bytes.len() - end {
+            if CELL_BYTES * (cells as usize) < bytes.len() - end {
                 return refused(Refusal::TrailingBytes);
             }
             Opened {
@@ -66,7 +71,7 @@ fn wrong_counts() -> Counts
 {
     Counts {
         right: false,
-        planes: [0; 13],
+        planes: [0; MOST_LAYERS],
     }
 }
 
@@ -76,7 +81,7 @@ fn read_counts(text: &[u8], shape: Shape) -> Counts
     ensures { λ r. ⌜ r ≡ O.countsOf (O.countsIn shape (S.layers shape) 0 (now (text .entry))) ⌝ }
 {
     let last = 2 * shape.levels;
-    let mut planes = [0u64; 13];
+    let mut planes = [0u64; MOST_LAYERS];
     let mut at: usize = 0;
     for k in 0..last {
         let end = text::find(text, at, 44);
@@ -136,7 +141,7 @@ fn open_step(bytes: &[u8], shape: Shape, curve: Curve, at: usize) -> Opened
     requires { ⌜ S.accepted shape ≡ true ⌝ }
     ensures { λ r. ⌜ O.told r ≡ O.openingStep (now (bytes .entry)) shape curve at ⌝ }
 {
-    match text::read_line(bytes, at, b"step=", 0, 65535) {
+    match text::read_line(bytes, at, b"step=", 0, MOST_STEP) {
         Line::Short => refused(Refusal::HeaderCut),
         Line::Wrong => refused(Refusal::BadLine(5)),
         Line::Number { value, length } => open_planes(bytes, shape, curve, value, at + length),
@@ -207,7 +212,7 @@ fn open_levels(bytes: &[u8], rows: u64, cols: u64, at: usize) -> Opened
     requires { ⌜ (1 ≤ rows) × (1 ≤ cols) × (rows * cols ≤ pointsMost) ⌝ }
     ensures { λ r. ⌜ O.told r ≡ O.openingLevels (now (bytes .entry)) rows cols at ⌝ }
 {
-    match text::read_line(bytes, at, b"levels=", 0, 6) {
+    match text::read_line(bytes, at, b"levels=", 0, MOST_LEVELS as u64) {
         Line::Short => refused(Refusal::HeaderCut),
         Line::Wrong => refused(Refusal::BadLine(3)),
         Line::Number { value, length } => {
@@ -226,7 +231,7 @@ fn open_cols(bytes: &[u8], rows: u64, at: usize) -> Opened
     requires { ⌜ (1 ≤ rows) × (rows ≤ pointsMost) ⌝ }
     ensures { λ r. ⌜ O.told r ≡ O.openingCols (now (bytes .entry)) rows at ⌝ }
 {
-    match text::read_line(bytes, at, b"cols=", 1, 8192 / rows) {
+    match text::read_line(bytes, at, b"cols=", 1, MOST_POINTS as u64 / rows) {
         Line::Short => refused(Refusal::HeaderCut),
         Line::Wrong => refused(Refusal::BadLine(2)),
         Line::Number { value, length } => open_levels(bytes, rows, value, at + length),
@@ -237,7 +242,7 @@ fn open_cols(bytes: &[u8], rows: u64, at: usize) -> Opened
 pub fn open(bytes: &[u8]) -> Opened
     ensures { λ r. ⌜ O.told r ≡ O.opening (now (bytes .entry)) ⌝ }
 {
-    match text::read_line(bytes, 0, b"rows=", 1, 8192) {
+    match text::read_line(bytes, 0, b"rows=", 1, MOST_POINTS as u64) {
         Line::Short => refused(Refusal::HeaderCut),
         Line::Wrong => refused(Refusal::BadLine(1)),
         Line::Number { value, length } => open_cols(bytes, value, length),

@@ -11,19 +11,24 @@ ghost use Rattle.header.specs.Header as Hd;
 ghost use Rattle.header.specs.Plan as P;
 ghost use Rattle.header.specs.Opening as O;
 ghost use Rattle.header.specs.CardOrder as K;
+use crate::CELL_BYTES;
+use crate::CELL_POINTS;
 use crate::Header;
+use crate::MOST_PLACES;
 use crate::Plan;
+use layers::MOST_LAYERS;
+use layers::MOST_STEP;
 use layers::Shape;
 
 // The cells of one plane of a layer; 0 where there is no such layer.
 pub fn plane_cells(shape: Shape, layer: usize) -> u64
     ensures { λ r. ⌜ r ≡ Hd.cellsAt shape layer ⌝ }
 {
-    (layers::layer_size(shape, layer) as u64 + 255) / 256
+    ((layers::layer_size(shape, layer) + (CELL_POINTS - 1)) / CELL_POINTS) as u64
 }
 
 // The cells of all the planes that the counts name.
-pub(crate) fn cells_of(shape: Shape, planes: [u64; 13]) -> u64
+pub(crate) fn cells_of(shape: Shape, planes: [u64; MOST_LAYERS]) -> u64
     requires { ⌜ S.accepted shape ≡ true ⌝ }
     requires { ⌜ ((k : ℕ) → getD planes k 0 ≤ Hd.placesMost) ⌝ }
     ensures { λ r. ⌜ r ≡ Hd.cellsOf shape planes ⌝ }
@@ -44,41 +49,41 @@ pub(crate) fn planes_most(shape: Shape, layer: usize) -> u64
     if layers::layer_size(shape, layer) == 0 {
         return 0;
     }
-    23
+    MOST_PLACES
 }
 
 // The most planes that each layer may have.
-fn limits(shape: Shape) -> [u64; 13]
+fn limits(shape: Shape) -> [u64; MOST_LAYERS]
     requires { ⌜ S.accepted shape ≡ true ⌝ }
     ensures { λ r. ⌜ r ≡ tabulate layersMost (O.planesMost shape) ⌝ }
 {
-    let mut most = [0u64; 13];
-    for k in 0..13usize {
+    let mut most = [0u64; MOST_LAYERS];
+    for k in 0..MOST_LAYERS {
         most[k] = planes_most(shape, k);
     }
     most
 }
 
-// The first place where a plan loads more than the limit there, or 13.
-pub fn first_over(limit: [u64; 13], plan: [u64; 13]) -> usize
+// The first place where a plan loads more than the limit there, or MOST_LAYERS.
+pub fn first_over(limit: [u64; MOST_LAYERS], plan: [u64; MOST_LAYERS]) -> usize
     ensures { λ r. ⌜ r ≡ P.firstOver (λ k. getD limit k 0) (λ k. getD plan k 0) ⌝ }
 {
-    for k in 0..13usize {
+    for k in 0..MOST_LAYERS {
         if limit[k] < plan[k] {
             return k;
         }
     }
-    13
+    MOST_LAYERS
 }
 
 // The cells of all the planes that the counts name; 0 where no header has such a shape or such counts.
-pub fn total_cells(shape: Shape, planes: [u64; 13]) -> u64
+pub fn total_cells(shape: Shape, planes: [u64; MOST_LAYERS]) -> u64
     ensures { λ r. ⌜ r ≡ O.cellsNamed shape planes ⌝ }
 {
     if !layers::accepted(shape) {
         return 0;
     }
-    if first_over(limits(shape), planes) < 13 {
+    if first_over(limits(shape), planes) < MOST_LAYERS {
         return 0;
     }
     cells_of(shape, planes)
@@ -93,33 +98,33 @@ pub fn is_right(header: Header) -> bool
     if !layers::accepted(shape) {
         return false;
     }
-    if 65535 < header.step {
+    if MOST_STEP < header.step {
         return false;
     }
-    if first_over(limits(shape), planes) < 13 {
+    if first_over(limits(shape), planes) < MOST_LAYERS {
         return false;
     }
     header.cells == cells_of(shape, planes)
 }
 
 // The cells of one plane of each layer.
-fn widths_of(shape: Shape) -> [u64; 13]
+fn widths_of(shape: Shape) -> [u64; MOST_LAYERS]
     ensures { λ r. ⌜ r ≡ tabulate layersMost (Hd.cellsAt shape) ⌝ }
 {
-    let mut widths = [0u64; 13];
-    for k in 0..13usize {
+    let mut widths = [0u64; MOST_LAYERS];
+    for k in 0..MOST_LAYERS {
         widths[k] = plane_cells(shape, k);
     }
     widths
 }
 
 // The cells up to the end of layer k's plane at place p, in card order.
-fn cells_through(widths: [u64; 13], planes: [u64; 13], k: usize, p: u64) -> u64
+fn cells_through(widths: [u64; MOST_LAYERS], planes: [u64; MOST_LAYERS], k: usize, p: u64) -> u64
     requires { ⌜ (k < layersMost) × ((j : ℕ) → (getD widths j 0 ≤ K.widthMost) × (getD planes j 0 ≤ Hd.placesMost)) × (p < Hd.placesMost) ⌝ }
     ensures { λ r. ⌜ r ≡ K.cellsThrough widths planes k p ⌝ }
 {
     let mut cells = widths[k];
-    for j in 0..13usize {
+    for j in 0..MOST_LAYERS {
         let from = if j < k { p } else { p + 1 };
         if from < planes[j] {
             cells += widths[j] * (planes[j] - from);
@@ -136,7 +141,7 @@ pub fn cells_before(header: Header, layer: usize, p: u64) -> u64
         return 0;
     }
     let counts = header.planes;
-    if 13 <= layer {
+    if MOST_LAYERS <= layer {
         return 0;
     }
     if counts[layer] <= p {
@@ -147,14 +152,14 @@ pub fn cells_before(header: Header, layer: usize, p: u64) -> u64
 }
 
 // How many planes of layer k are whole in n bytes behind the header: from the top down, until one is not.
-fn whole_of(widths: [u64; 13], planes: [u64; 13], k: usize, n: usize) -> u64
+fn whole_of(widths: [u64; MOST_LAYERS], planes: [u64; MOST_LAYERS], k: usize, n: usize) -> u64
     requires { ⌜ (k < layersMost) × ((j : ℕ) → (getD widths j 0 ≤ K.widthMost) × (getD planes j 0 ≤ Hd.placesMost)) ⌝ }
     ensures { λ r. ⌜ r ≡ count (λ p. leb (Hd.cellBytes * K.cellsThrough widths planes k p) n) (getD planes k 0) ⌝ }
 {
     let mut left = planes[k];
     let mut found: u64 = 0;
     while 0 < left {
-        if n < 32 * cells_through(widths, planes, k, left - 1) as usize {
+        if n < CELL_BYTES * cells_through(widths, planes, k, left - 1) as usize {
             return found;
         }
         left -= 1;
@@ -167,13 +172,13 @@ fn whole_of(widths: [u64; 13], planes: [u64; 13], k: usize, n: usize) -> u64
 pub fn whole_planes(header: Header, n: usize) -> Plan
     ensures { λ r. ⌜ r ≡ K.wholeIn header n ⌝ }
 {
-    let mut planes = [0u64; 13];
+    let mut planes = [0u64; MOST_LAYERS];
     if !is_right(header) {
         return Plan { planes };
     }
     let widths = widths_of(header.shape);
     let counts = header.planes;
-    for k in 0..13usize {
+    for k in 0..MOST_LAYERS {
         planes[k] = whole_of(widths, counts, k, n);
     }
     Plan { planes }

@@ -10,7 +10,10 @@ ghost use Rattle.layers.specs.Limits.{layersMost};
 ghost use Rattle.header.specs.Header as Hd;
 use crate::Header;
 use crate::HeaderText;
+use crate::MOST_TEXT;
 use layers::Curve;
+use layers::MOST_LAYERS;
+use layers::MOST_LEVELS;
 
 // Puts bytes at a place, and answers the place after them.
 fn put_bytes(out: &mut [u8], at: usize, bytes: &[u8]) -> usize
@@ -45,7 +48,7 @@ fn put_line(out: &mut [u8], at: usize, key: &[u8], n: u64) -> usize
 }
 
 // Puts the first `count` numbers, commas between.
-fn put_list(out: &mut [u8], at: usize, numbers: [u64; 13], count: usize) -> usize
+fn put_list(out: &mut [u8], at: usize, numbers: [u64; MOST_LAYERS], count: usize) -> usize
     requires { ⌜ (0 < count) × (count ≤ layersMost) × (at + length (Hd.listText (take count numbers)) ≤ length (now out)) ⌝ }
     ensures { λ r. ⌜ (r ≡ at + length (Hd.listText (take count numbers))) × (now (out .exit) ≡ sets (now (out .entry)) at (Hd.listText (take count numbers))) ⌝ }
 {
@@ -71,7 +74,11 @@ fn put_curve(out: &mut [u8], at: usize, curve: Curve) -> usize
 fn listed(levels: usize) -> usize
     ensures { λ r. ⌜ r ≡ Hd.listed levels ⌝ }
 {
-    if levels < 6 { 2 * levels + 1 } else { 13 }
+    if levels < MOST_LEVELS {
+        2 * levels + 1
+    } else {
+        MOST_LAYERS
+    }
 }
 
 // Puts the seven lines, in a slice with room for any header, and answers their length.
@@ -102,7 +109,7 @@ fn put_header(out: &mut [u8], header: Header) -> usize
 pub fn header_text(header: Header) -> HeaderText
     ensures { λ r. ⌜ (r .length ≡ length (Hd.headerText header)) × (take (r .length) (r .bytes) ≡ Hd.headerText header) ⌝ }
 {
-    let mut bytes = [0u8; 512];
+    let mut bytes = [0u8; MOST_TEXT];
     let length = put_header(&mut bytes, header);
     HeaderText { bytes, length }
 }

@@ -11,6 +11,15 @@ pub use sheet::accepted;
 pub use sheet::layer_grid;
 pub use sheet::layer_size;
 
+// Document 01's sizes of a sheet, and the layers that so many levels make.
+pub const MOST_POINTS: usize = 8192;
+
+pub const MOST_LEVELS: usize = 6;
+
+pub const MOST_LAYERS: usize = 1 + 2 * MOST_LEVELS;
+
+pub const MOST_STEP: u64 = 65535;
+
 // Rows, columns and levels, as the caller gives them.
 pub struct Shape {
     pub rows: usize,

@@ -7,13 +7,10 @@ ghost use Rattle.layers.specs.Calls as C;
 ghost use Rattle.layers.specs.Loops as L;
 use crate::Direction;
 use crate::Grid;
+use crate::MOST_LEVELS;
+use crate::MOST_POINTS;
+use crate::MOST_STEP;
 use crate::Shape;
-
-const MOST_POINTS: usize = 8192;
-
-const MOST_LEVELS: usize = 6;
-
-const MOST_STEP: u64 = 65535;
 
 // Is this a shape that a sheet can have? Sizes are bounded before they are multiplied.
 pub fn accepted(shape: Shape) -> bool

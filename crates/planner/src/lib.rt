@@ -8,6 +8,7 @@ mod table;
 
 use header::Plan;
 use header::Refusal;
+use layers::MOST_LAYERS;
 use searching::search_by_cells;
 use searching::search_by_limit;
 
@@ -24,7 +25,9 @@ fn refused(refusal: Refusal) -> Planned
 {
     Planned {
         refusal,
-        plan: Plan { planes: [0; 13] },
+        plan: Plan {
+            planes: [0; MOST_LAYERS],
+        },
         cells: 0,
         figure: 0,
     }

@@ -10,8 +10,6 @@ ghost use Rattle.header.specs.Refusals as R;
 ghost use Rattle.planner.specs.Planning as N;
 ghost use Rattle.planner.specs.Table as T;
 use crate::Planned;
-use crate::table::MOST_CELLS;
-use crate::table::MOST_LAYERS;
 use crate::table::NONE;
 use crate::table::ROW;
 use crate::table::TABLE;
@@ -20,8 +18,10 @@ use crate::table::charge;
 use crate::table::fill;
 use crate::table::rule_of;
 use header::Header;
+use header::MOST_CELLS;
 use header::Plan;
 use header::Refusal;
+use layers::MOST_LAYERS;
 
 // The most that a plan may stand at by the limit, below NONE.
 fn room_of(step: u64, limit: u64) -> u64
@@ -105,13 +105,13 @@ fn preferred(t: &[u64], header: Header, k: usize, c: usize) -> u64
 }
 
 // The plan that the table gives in exactly `size` cells, from the last layer back.
-fn trace(t: &[u64], header: Header, size: usize) -> [u64; 13]
+fn trace(t: &[u64], header: Header, size: usize) -> [u64; MOST_LAYERS]
     requires { ⌜ (O.right header ≡ true) × (size < T.rowLength) ⌝ }
     requires { ⌜ T.Rows (T.layersOf header) (now t) layersMost ⌝ }
     requires { ⌜ T.best (T.layersOf header) layersMost size < T.none ⌝ }
     ensures { λ r. ⌜ T.Traced (T.layersOf header) layersMost size (N.counts r) ⌝ }
 {
-    let mut planes = [0u64; 13];
+    let mut planes = [0u64; MOST_LAYERS];
     let mut c = size;
     let mut k = MOST_LAYERS;
     while 0 < k {

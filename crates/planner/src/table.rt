@@ -10,14 +10,12 @@ ghost use Rattle.header.specs.Header as Hd;
 ghost use Rattle.header.specs.Opening as O;
 ghost use Rattle.planner.specs.Table as T;
 use header::Header;
+use header::MOST_CELLS;
 use layers::Curve;
+use layers::MOST_LAYERS;
 
 // No plan of a card stands this high.
 pub(crate) const NONE: u64 = 1 << 60;
-
-pub(crate) const MOST_LAYERS: usize = 13;
-
-pub(crate) const MOST_CELLS: usize = 1012;
 
 // A row has an entry for each number of cells, and there is one for each number of layers.
 pub(crate) const ROW: usize = MOST_CELLS + 1;

@@ -5,8 +5,17 @@ ghost use lib.ListN.{length};
 ghost use lib.Seq.{sets};
 ghost use Rattle.layers.specs.Limits.{layersMost};
 ghost use Rattle.trace_card.specs.Boundary as B;
+use crate::ANSWER;
 use header::Details;
 use header::Plan;
+use layers::MOST_LAYERS;
+
+// Where the plan stands in an answer, and where the numbers that stay 0 begin.
+const PLAN_AT: usize = 5;
+
+const REST_AT: usize = PLAN_AT + MOST_LAYERS;
+
+const REST: usize = ANSWER - REST_AT;
 
 // Puts numbers into a slice, from a place on.
 fn put(numbers: &[u64], out: &mut [u64], at: usize)
@@ -23,7 +32,7 @@ pub(crate) fn plan_from(numbers: &[u64]) -> Plan
     requires { ⌜ length (now numbers) ≡ layersMost ⌝ }
     ensures { λ r. ⌜ r ≡ B.planOf (now (numbers .entry)) ⌝ }
 {
-    let mut planes = [0u64; 13];
+    let mut planes = [0u64; MOST_LAYERS];
     put(numbers, &mut planes, 0);
     Plan { planes }
 }
@@ -41,9 +50,9 @@ pub(crate) fn put_answer(
 {
     let front = [details.number, details.first, details.second, size, figure];
     let planes = plan.planes;
-    let rest = [0u64; 6];
+    let rest = [0u64; REST];
     put(&front, answer, 0);
-    put(&planes, answer, 5);
-    put(&rest, answer, 18);
+    put(&planes, answer, PLAN_AT);
+    put(&rest, answer, REST_AT);
     details.number
 }

@@ -3,6 +3,7 @@ ghost use mathlib.Core.Path.{_≡_};
 ghost use lib.ListN.{length};
 ghost use Rattle.header.specs.Refusals.{detailsOf};
 ghost use Rattle.trace_card.specs.Boundary as B;
+use crate::ANSWER;
 use crate::answer::put_answer;
 use planner::Planned;
 
@@ -27,7 +28,7 @@ fn put_planned(answer: &mut [u64], planned: Planned) -> u64
 pub extern "C" fn trace_card_plan_by_limit(card: &[u8], limit: u64, answer: &mut [u64]) -> u64
     ensures { λ r. ⌜ B.asked r (now (answer .exit)) ≡ B.limitCall (now (card .entry)) limit (now (answer .entry)) ⌝ }
 {
-    if answer.len() != 24 {
+    if answer.len() != ANSWER {
         return 3;
     }
     let planned = planner::plan_by_limit(card, limit);
@@ -39,7 +40,7 @@ pub extern "C" fn trace_card_plan_by_limit(card: &[u8], limit: u64, answer: &mut
 pub extern "C" fn trace_card_plan_by_cells(card: &[u8], cells: u64, answer: &mut [u64]) -> u64
     ensures { λ r. ⌜ B.asked r (now (answer .exit)) ≡ B.cellsCall (now (card .entry)) cells (now (answer .entry)) ⌝ }
 {
-    if answer.len() != 24 {
+    if answer.len() != ANSWER {
         return 3;
     }
     let planned = planner::plan_by_cells(card, cells);

@@ -3,9 +3,11 @@ ghost use mathlib.Core.Path.{_≡_};
 ghost use lib.ListN.{length};
 ghost use Rattle.header.specs.Refusals.{detailsOf};
 ghost use Rattle.trace_card.specs.Boundary as B;
+use crate::ANSWER;
 use crate::answer::plan_from;
 use crate::answer::put_answer;
 use card::Reached;
+use layers::MOST_LAYERS;
 
 // Fills the answer of a call that reaches a plan.
 fn put_reached(answer: &mut [u64], reached: Reached) -> u64
@@ -28,10 +30,10 @@ pub extern "C" fn trace_card_read(
 ) -> u64
     ensures { λ r. ⌜ B.left r (now (answer .exit)) (now (coefficients .exit)) (now (values .exit)) ≡ B.readCall (now (coefficients .entry)) (now (values .entry)) (now (answer .entry)) (now (card .entry)) (now (plan .entry)) ⌝ }
 {
-    if answer.len() != 24 {
+    if answer.len() != ANSWER {
         return 3;
     }
-    if plan.len() != 13 {
+    if plan.len() != MOST_LAYERS {
         return 3;
     }
     let reached = card::read(card, plan_from(plan), coefficients, values);
@@ -48,7 +50,7 @@ pub extern "C" fn trace_card_show(
 ) -> u64
     ensures { λ r. ⌜ B.left r (now (answer .exit)) (now (coefficients .exit)) (now (values .exit)) ≡ B.showCall (now (coefficients .entry)) (now (values .entry)) (now (answer .entry)) (now (card .entry)) ⌝ }
 {
-    if answer.len() != 24 {
+    if answer.len() != ANSWER {
         return 3;
     }
     let reached = card::show(card, coefficients, values);
@@ -67,10 +69,10 @@ pub extern "C" fn trace_card_refine(
 ) -> u64
     ensures { λ r. ⌜ B.left r (now (answer .exit)) (now (coefficients .exit)) (now (values .exit)) ≡ B.refineCall (now (coefficients .entry)) (now (values .entry)) (now (answer .entry)) (now (card .entry)) (now (plan .entry)) layer ⌝ }
 {
-    if answer.len() != 24 {
+    if answer.len() != ANSWER {
         return 3;
     }
-    if plan.len() != 13 {
+    if plan.len() != MOST_LAYERS {
         return 3;
     }
     let reached = card::refine(card, plan_from(plan), layer, coefficients, values);

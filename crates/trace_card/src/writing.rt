@@ -4,11 +4,13 @@ ghost use mathlib.Core.Bool.{cond};
 ghost use Rattle.header.specs.Refusals.{refusal, detailsOf};
 ghost use Rattle.card.specs.Writing as W;
 ghost use Rattle.trace_card.specs.Boundary as B;
+use crate::ANSWER;
 use crate::answer::put_answer;
 use card::Written;
 use header::Plan;
 use header::Refusal;
 use layers::Curve;
+use layers::MOST_LAYERS;
 use layers::Shape;
 
 // The refusal of a curve that is none: a wrong size still comes first.
@@ -82,7 +84,7 @@ pub extern "C" fn trace_card_write(
 ) -> u64
     ensures { λ r. ⌜ B.wrote r (now (answer .exit)) (now (coefficients .exit)) (now (values .exit)) (now (output .exit)) ≡ B.writeCall (now (samples .entry)) rows cols levels curve step (now (coefficients .entry)) (now (values .entry)) (now (output .entry)) (now (answer .entry)) ⌝ }
 {
-    if answer.len() != 24 {
+    if answer.len() != ANSWER {
         return 3;
     }
     let written = write_by(
@@ -97,7 +99,9 @@ pub extern "C" fn trace_card_write(
         output,
     );
     let refusal = written.refusal;
-    let none = Plan { planes: [0; 13] };
+    let none = Plan {
+        planes: [0; MOST_LAYERS],
+    };
     put_answer(
         answer,
         header::details_of(refusal),
