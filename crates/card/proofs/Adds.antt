@@ -1,8 +1,8 @@
 -- A plane's digits added in row order: where the walk has come to the sheet's index j, the layer's points before j have their digit's weight added, and as many digits are used as such points there are.
-use mathlib.Core.Path.{_≡_, refl, sym, ap, _∙_}
+use mathlib.Core.Path.{_≡_, sym, ap, _∙_}
 use mathlib.Core.Bool.{true, false, cond}
 use mathlib.Core.List.{List}
-use Prim.Native.Nat.{ℕ, _+_, _-_, _*_, _<_, _≤_}
+use Prim.Native.Nat.{ℕ, _+_, _<_, _≤_}
 use native.Mathlib.Nat.{le-refl}
 use native.Mathlib.Omega.{arith}
 use lib.IntN.{ℤ, pos, _+ℤ_, _*ℤ_}
@@ -10,13 +10,13 @@ use lib.ListN.{length, set}
 use Rattle.digits.specs.Digits.{weight, holds}
 use Rattle.digits.proofs.Range.{Holds, holds-yes}
 use Rattle.layers.specs.declared.Shape.{Shape}
-use Rattle.layers.specs.Lists.{at, tabulate}
+use Rattle.layers.specs.Lists.{at}
 use Rattle.layers.specs.Sheet.{points, inLayer, placeIn}
 use Rattle.layers.proofs.Lists.{count-most}
 use Rattle.layers.proofs.Sweep.{Local, Swept, swept-none, swept-more, swept-skip, swept-all}
 use Rattle.header.specs.Header.{placesMost}
 use Rattle.card.specs.Refining.{allHeld, coefsPlus}
-use Rattle.card.proofs.ZeroBits.{all-at}
+use Rattle.card.proofs.All.{all-at}
 use Rattle.card.proofs.Walk.{place-none, place-skip, place-more}
 
 -- the coefficient of index j where the walk has passed it: l are those at the start

@@ -1,30 +1,33 @@
--- A test of all numbers below n: it passes where each of them does, by induction on n.
+-- A test of all numbers below n passes exactly where it passes at each of them, by induction on n. Two tests of which each passes where the other does have one outcome.
 use mathlib.Core.Path.{_≡_, refl, sym, _∙_}
-use mathlib.Core.Bool.{Bool, true, true≢false}
+use mathlib.Core.Bool.{Bool, true, false, false≢true}
 use Prim.Native.Nat.{ℕ, zero, suc, _<_}
 use native.Mathlib.Nat.{le-refl}
 use native.Mathlib.Decide.{decLt}
 use native.Mathlib.Omega.{arith}
-use Rattle.integers.proofs.Bools.{and-left, and-right, and-both, by, not-yes}
+use Rattle.integers.proofs.Bools.{and-left, and-right, and-both, not-yes}
 use Rattle.card.specs.Planes.{allBelow}
 
-pub all-by : (t : ℕ → Bool) (n : ℕ) → ((i : ℕ) → i < n → t i ≡ true) → allBelow t n ≡ true
-unfolding allBelow
-all-by t zero h = refl
-all-by t (suc n) h = and-both (allBelow t n) (t n) (all-by t n (λ i l. h i (omega arith))) (h n (le-refl (suc n)))
+module _ (t : ℕ → Bool) where
+  pub all-by : (n : ℕ) → ((i : ℕ) → i < n → t i ≡ true) → allBelow t n ≡ true
+  unfolding allBelow
+  all-by zero h = refl
+  all-by (suc n) h = and-both (allBelow t n) (t n) (all-by n (λ i l. h i (omega arith))) (h n (le-refl (suc n)))
 
-pub all-at : (t : ℕ → Bool) (n : ℕ) → allBelow t n ≡ true → (i : ℕ) → i < n → t i ≡ true
-unfolding allBelow
-all-at t zero e i h = absurd (let z : ⊥ = omega arith in z)
-all-at t (suc n) e i h =
-    elim (decLt i n) [
-      | yes l ↦ all-at t n (and-left (allBelow t n) (t n) e) i l
-      | no l ↦ let q : i ≡ n = omega arith in rw q (and-right (allBelow t n) (t n) e)
-    ]
+  pub all-at : (n : ℕ) → allBelow t n ≡ true → (i : ℕ) → i < n → t i ≡ true
+  unfolding allBelow
+  all-at zero e i l = absurd (let z : ⊥ = omega arith in z)
+  all-at (suc n) e i l =
+      elim (decLt i n) [
+        | yes m ↦ all-at n (and-left (allBelow t n) (t n) e) i m
+        | no m ↦ let q : i ≡ n = omega arith in rw q (and-right (allBelow t n) (t n) e)
+      ]
 
--- two such tests that follow from one another
-pub all-same : (t u : ℕ → Bool) (m n : ℕ) → (allBelow t m ≡ true → allBelow u n ≡ true) → (allBelow u n ≡ true → allBelow t m ≡ true) → allBelow t m ≡ allBelow u n
-all-same t u m n f g = same (allBelow t m) (allBelow u n) f g
-  where
-    same : (a b : Bool) → (a ≡ true → b ≡ true) → (b ≡ true → a ≡ true) → a ≡ b
-    same a b f g = by a (λ e. rw e (sym (f e))) (λ e. rw e (sym (not-yes b (λ y. true≢false (sym (g y) ∙ e)))))
+  pub all-no : (n i : ℕ) → i < n → t i ≡ false → allBelow t n ≡ false
+  all-no n i l e = not-yes (allBelow t n) (λ a. false≢true (sym e ∙ all-at n a i l))
+
+-- two tests of which each passes where the other does
+pub both-ways : (a b : Bool) → (a ≡ true → b ≡ true) → (b ≡ true → a ≡ true) → a ≡ b
+both-ways true b f g = sym (f refl)
+both-ways false true f g = g refl
+both-ways false false f g = refl

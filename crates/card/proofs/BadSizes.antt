@@ -6,7 +6,7 @@ use native.Mathlib.Nat.{mul-le-mul-left, mul-le-mul-right}
 use native.Mathlib.Omega.{arith}
 use lib.Dec.{ltb, eqb}
 use borrow.Author.Tests.{lt-ltb, eq-eqb, ne-eqb, ltb-false}
-use Rattle.integers.proofs.Bools.{or-left, or-right, by}
+use Rattle.integers.proofs.Bools.{or-left, or-right}
 use Rattle.layers.specs.Limits.{pointsMost}
 use Rattle.card.specs.Writing.{badSizes}
 

@@ -1,16 +1,15 @@
--- Where the layers' words lie: a block begins where the one before it ends, so blocks lie apart, and all of them together are 256 words for each cell of one plane of every layer, of which there are at most 44.
+-- Where the layers' words lie: a block begins where the one before it ends, so blocks lie apart, and all of them together are 256 words for each cell of one plane of every layer, of which there are at most 44. Every place before their end stands in one of them.
 use mathlib.Core.Path.{_≡_, refl}
 use mathlib.Core.Bool.{true}
-use Prim.Native.Nat.{ℕ, zero, suc, _+_, _*_, _<_, _≤_}
+use Prim.Native.Nat.{ℕ, zero, suc, _+_, _-_, _*_, _<_, _≤_}
+use native.Mathlib.Decide.{decLt}
+use native.Mathlib.Nat.{le-refl}
 use native.Mathlib.Numerals.{add-one}
 use native.Mathlib.Omega.{arith}
-use borrow.Author.Tests.{lt-ltb}
 use Rattle.layers.specs.declared.Shape.{Shape}
 use Rattle.layers.specs.Lists.{total}
 use Rattle.layers.specs.Sheet.{accepted, layers, layerSize}
-use Rattle.layers.specs.Calls.{sizing, gridding}
-use Rattle.layers.specs.Loops.{gridOf}
-use Rattle.header.specs.Header.{cellPoints, planeCells, cellsAt}
+use Rattle.header.specs.Header.{cellPoints, planeCells}
 use Rattle.header.proofs.Totals.{total-rises}
 use Rattle.header.proofs.Total.{plane-room, layers-most}
 use Rattle.card.specs.Words.{blockStart, wordsMost}
@@ -41,33 +40,23 @@ module _ (sh : Shape) where
   pub blocks-apart : (j k : ℕ) → j < k → blockStart sh j + cellPoints * planeCells sh j ≤ blockStart sh k
   blocks-apart j k h = omega (arith, block-suc j, block-rises (suc j) k h)
 
-  -- and its layer's points have room in it
-  pub block-holds : (j k : ℕ) → j < k → blockStart sh j + layerSize sh j ≤ blockStart sh k
-  block-holds j k h = omega (arith, blocks-apart j k h, plane-room sh j)
-
   module _ (ok : accepted sh ≡ true) where
     pub blocks-most : blockStart sh (layers sh) ≤ wordsMost
     unfolding blockStart
     blocks-most = omega (arith, total-times (planeCells sh) (layers sh), layers-most sh ok)
 
-    pub start-most : (k : ℕ) → k ≤ layers sh → blockStart sh k ≤ wordsMost
-    start-most k h = omega (arith, block-rises k (layers sh) h, blocks-most)
-
     pub block-room : (k : ℕ) → k < layers sh → blockStart sh k + cellPoints * planeCells sh k ≤ wordsMost
     block-room k h = omega (arith, blocks-apart k (layers sh) h, blocks-most)
 
+    -- and so for its layer's points
     pub layer-room : (k : ℕ) → k < layers sh → blockStart sh k + layerSize sh k ≤ wordsMost
     layer-room k h = omega (arith, block-room k h, plane-room sh k)
 
-    -- the sizes that the code asks for, where the layer is there
-    pub cells-here : (k : ℕ) → k < layers sh → cellsAt sh k ≡ planeCells sh k
-    unfolding cellsAt
-    cells-here k h = rw (ok, lt-ltb k (layers sh) h)
-
-    pub size-here : (k : ℕ) → k < layers sh → sizing sh k ≡ layerSize sh k
-    unfolding sizing
-    size-here k h = rw (ok, lt-ltb k (layers sh) h)
-
-    pub grid-here : (k : ℕ) → k < layers sh → gridding sh k ≡ gridOf (sh .levels) k
-    unfolding gridding
-    grid-here k h = rw (ok, lt-ltb k (layers sh) h)
+  -- every place before the end stands in a block
+  pub in-block : {P : Type 0} (n j : ℕ) → j < blockStart sh n → ((k i : ℕ) → k < n → i < cellPoints * planeCells sh k → blockStart sh k + i ≡ j → P) → P
+  in-block zero j l f = absurd (let z : ⊥ = omega (arith, block-none) in z)
+  in-block (suc n) j l f =
+      elim (decLt j (blockStart sh n)) [
+        | yes m ↦ in-block n j m (λ k i a b e. f k i (omega arith) b e)
+        | no m ↦ f n (j - blockStart sh n) (le-refl (suc n)) (omega (arith, block-suc n)) (omega arith)
+      ]

@@ -1,8 +1,8 @@
 -- The card that is written: the counts of coefficients are right ones, since a layer's count is at most 23, and 0 where it has no point or is not there; so the header is right and the card fits. The text at the front and the planes behind it are the card, then the old bytes.
 use mathlib.Core.Path.{_≡_, refl, sym, ap, ap₂, _∙_}
-use mathlib.Core.Bool.{Bool, true, false, true≢false, cond, not}
+use mathlib.Core.Bool.{true, true≢false}
 use mathlib.Core.List.{List, _++_}
-use Prim.Native.Nat.{ℕ, zero, suc, _+_, _<_, _≤_}
+use Prim.Native.Nat.{ℕ, _+_, _<_, _≤_}
 use native.Mathlib.Omega.{arith}
 use borrow.Author.Tests.{eq-eqb, ltb-true, eqb-true}
 use lib.Dec.{ltb, eqb}
@@ -10,53 +10,37 @@ use lib.IntN.{ℤ}
 use lib.ListN.{length, getD, take, drop, length-append, length-take}
 use lib.Seq.{sets, sets-eq}
 use Rattle.integers.proofs.Bools.{by}
-use Rattle.digits.specs.Digits.{holds, firstFrom}
+use Rattle.digits.specs.Digits.{holds}
+use Rattle.digits.proofs.Firsts.{first-le, first-now}
 use Rattle.layers.specs.declared.Shape.{Shape}
 use Rattle.layers.specs.declared.Curve.{Curve}
 use Rattle.layers.specs.Limits.{layersMost, stepMost}
 use Rattle.layers.specs.Lists.{at, tabulate}
-use Rattle.layers.specs.Sheet.{accepted, points, layers, inLayer, layerSize}
+use Rattle.layers.specs.Sheet.{accepted, layers, layerSize}
 use Rattle.layers.proofs.Lists.{getD-tabulate}
 use Rattle.layers.proofs.Places.{place-in}
 use Rattle.header.specs.declared.Header.{Header}
-use Rattle.header.specs.Header.{placesMost, planesOf, cellsOf, headerText}
+use Rattle.header.specs.Header.{placesMost, cellsOf, headerText}
 use Rattle.header.specs.Plan.{firstOver}
 use Rattle.header.specs.Opening.{planesMost, cellsNamed}
-use Rattle.header.proofs.Rightness.{Right, most-some, counts-few, layers-few}
+use Rattle.header.proofs.Rightness.{Right, most-some}
 use Rattle.header.proofs.Over.{none-over}
+use Rattle.header.proofs.Stores.{sets-sets}
 use Rattle.header.proofs.TextLength.{right-fits, card-fits}
 use Rattle.card.specs.Planes.{enough, planesFor, countsFor, headerFor, body, cardOf}
 use Rattle.card.specs.Writing.{outputLeast}
 use Rattle.card.specs.Words.{Gathered, countAt, flatDown}
-use Rattle.card.proofs.All.{all-by}
 use Rattle.card.proofs.BodyOrder.{body-length}
 use Rattle.card.proofs.FlatPlanes.{flat-body}
+use Rattle.card.proofs.HeldLayers.{enough-by}
+use Rattle.card.proofs.LayerPlanes.{few-planes}
 use Rattle.card.proofs.Needed.{counts-same}
-use Rattle.card.proofs.Runs.{sets-sets}
-
-first-le : (t : ℕ → Bool) (f n : ℕ) → firstFrom t f n ≤ n + f
-unfolding firstFrom
-first-le t zero n = omega arith
-first-le t (suc f) n = go (t n) (first-le t f (suc n)) where
-  go : (b : Bool) → firstFrom t f (suc n) ≤ suc n + f → cond b n (firstFrom t f (suc n)) ≤ n + suc f
-  go true h = omega arith
-  go false h = omega arith
-
-first-now : (t : ℕ → Bool) (f n : ℕ) → t n ≡ true → firstFrom t f n ≡ n
-unfolding firstFrom
-first-now t zero n e = refl
-first-now t (suc f) n e = rw e
 
 -- ---- the counts are right
 module _ (sh : Shape) (qs : List ℤ) (k : ℕ) where
   -- an empty layer needs no digits
   empty-enough : layerSize sh k ≡ 0 → enough sh qs k 0 ≡ true
-  unfolding enough
-  empty-enough e =
-      all-by _ (points sh) (λ p hp.
-      by (inLayer sh k p)
-      (λ m. absurd (let z : ⊥ = omega (arith, place-in sh k p hp m) in z))
-      (λ m. rw m))
+  empty-enough e = enough-by sh qs k 0 (λ p hp m. absurd (let z : ⊥ = omega (arith, place-in sh k p hp m) in z))
 
   planes-most : planesFor sh qs k ≤ planesMost sh k
   unfolding planesFor
@@ -68,9 +52,13 @@ module _ (sh : Shape) (qs : List ℤ) (k : ℕ) where
       (λ n. let some : planesMost sh k ≡ placesMost = most-some sh k (ltb-true _ _ t) (λ z. true≢false (sym (eq-eqb _ _ z) ∙ n)) in omega (arith, first-le (enough sh qs k) placesMost 0))))
       (λ t. rw t (omega arith))
 
-counts-most : (sh : Shape) (qs : List ℤ) (k : ℕ) → k < layersMost → getD (countsFor sh qs) k 0 ≤ planesMost sh k
+-- as the header has them
+pub counts-at : (sh : Shape) (qs : List ℤ) (k : ℕ) → k < layersMost → getD (countsFor sh qs) k 0 ≡ planesFor sh qs k
 unfolding countsFor
-counts-most sh qs k h = rw (getD-tabulate layersMost (planesFor sh qs) k 0 h) (planes-most sh qs k)
+counts-at sh qs k h = getD-tabulate layersMost (planesFor sh qs) k 0 h
+
+counts-most : (sh : Shape) (qs : List ℤ) (k : ℕ) → k < layersMost → getD (countsFor sh qs) k 0 ≤ planesMost sh k
+counts-most sh qs k h = rw (counts-at sh qs k h) (planes-most sh qs k)
 
 module _ (sh : Shape) (ok : accepted sh ≡ true) (qs : List ℤ) where
   -- so their cells are named
@@ -89,12 +77,9 @@ module _ (sh : Shape) (ok : accepted sh ≡ true) (qs : List ℤ) where
     unfolding cardOf
     card-length = length-append (headerText (headerFor sh curve e qs)) (body (headerFor sh curve e qs) qs)
 
-    few : (j : ℕ) → j < layers sh → planesOf (headerFor sh curve e qs) j ≤ placesMost
-    few j l = counts-few header-right j (omega (arith, layers-few header-right))
-
     -- THE CARD FITS
     pub card-most : length (cardOf sh curve e qs) ≤ outputLeast
-    card-most = omega (arith, card-length, card-fits header-right, body-length (headerFor sh curve e qs) qs few)
+    card-most = omega (arith, card-length, card-fits header-right, body-length (headerFor sh curve e qs) qs (few-planes header-right))
 
 -- ---- a run at the front
 sets-front : (d a : List ℕ) → length a ≤ length d → sets d 0 a ≡ a ++ drop (length a) d

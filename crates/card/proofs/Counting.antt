@@ -1,8 +1,8 @@
 -- The fewest digits that hold the numbers of some words: digits that hold the least and the greatest hold all between, and the number 0 of the offset is held by any; so the more of the two counts passes the test, and no fewer digits do.
 use mathlib.Core.Path.{_≡_, refl, sym, _∙_}
-use mathlib.Core.Bool.{Bool, true, true≢false}
+use mathlib.Core.Bool.{true}
 use mathlib.Core.List.{List}
-use Prim.Native.Nat.{ℕ, zero, suc, _+_, _^_, min, max, _<_, _≤_}
+use Prim.Native.Nat.{ℕ, _+_, _^_, min, max, _<_, _≤_}
 use native.Mathlib.Nat.{le-refl}
 use native.Mathlib.Decide.{decLt, ℕ-discrete}
 use native.Mathlib.Omega.{arith}
@@ -10,14 +10,15 @@ use borrow.Author.Tests.{lt-ltb, le-ltb}
 use lib.ListN.{length, getD, set, replicate, length-set}
 use lib.Seq.{ext-getD, getD-set-same, getD-set-other}
 use Rattle.integers.proofs.Diff.{lit, _⊖_}
-use Rattle.digits.specs.Digits.{evens, odds, holds, firstFrom, fewest}
+use Rattle.digits.specs.Digits.{evens, odds, holds, fewest}
 use Rattle.digits.proofs.Range.{Holds, holds-yes, holds-by, range-23}
-use Rattle.digits.proofs.Fewest.{first-passes, first-least, fewest-le, fewest-holds}
+use Rattle.digits.proofs.Fewest.{fewest-le, fewest-holds}
+use Rattle.digits.proofs.Firsts.{first-only}
 use Rattle.layers.specs.declared.Shape.{Shape}
 use Rattle.layers.specs.Limits.{layersMost}
 use Rattle.layers.specs.Lists.{tabulate}
 use Rattle.layers.specs.Sheet.{layers, layerSize}
-use Rattle.layers.proofs.Lists.{length-tabulate, getD-tabulate}
+use Rattle.layers.proofs.Lists.{length-tabulate, getD-tabulate, getD-zeros}
 use Rattle.header.specs.Header.{placesMost}
 use Rattle.card.specs.Planes.{allBelow}
 use Rattle.card.specs.Words.{offset, numberOf, countOf, countAt, blockStart}
@@ -33,16 +34,6 @@ reach-yes d w h = omega (arith, (lit w ⊖ lit offset) .is)
 
 pub reach-by : (d w : ℕ) → Reach d w → Holds d (numberOf w)
 reach-by d w h = omega (arith, (lit w ⊖ lit offset) .is)
-
--- ---- the one number from which on a test passes
-pub first-only : (t : ℕ → Bool) (f r : ℕ) → r ≤ f → ((d : ℕ) → r ≤ d → t d ≡ true) → ((d : ℕ) → t d ≡ true → r ≤ d) → r ≡ firstFrom t f 0
-first-only t f r h pass least =
-    let x = firstFrom t f 0 in
-    let up : r ≤ x = least x (first-passes t f 0 (pass (0 + f) (omega arith))) in
-    elim (decLt r x) [
-      | yes l ↦ absurd (true≢false (sym (pass r (le-refl r)) ∙ first-least t f 0 r (omega arith) l))
-      | no l ↦ omega arith
-    ]
 
 -- ---- the least and the greatest of n words and the offset
 pub record Ends (ws : List ℕ) (start n low high : ℕ) : Type 0 where
@@ -125,14 +116,9 @@ pub record CountedTo (sh : Shape) (ws : List ℕ) (k : ℕ) (ps : List ℕ) : Ty
   pub done : (j : ℕ) → j < k → getD ps j 0 ≡ countAt sh ws j
   pub left : (j : ℕ) → k ≤ j → getD ps j 0 ≡ 0
 
-zeros : (n j : ℕ) → _≡_ {A = ℕ} (getD (replicate n 0) j 0) 0
-zeros zero j = refl
-zeros (suc n) zero = refl
-zeros (suc n) (suc j) = zeros n j
-
 module _ (sh : Shape) (ws : List ℕ) where
   pub counted-none : CountedTo sh ws 0 (replicate layersMost 0)
-  counted-none = record { long = refl; done = λ j h. absurd (let z : ⊥ = omega arith in z); left = λ j _. zeros layersMost j }
+  counted-none = record { long = refl; done = λ j h. absurd (let z : ⊥ = omega arith in z); left = λ j _. getD-zeros layersMost j }
 
   pub counted-more : (k v : ℕ) (ps : List ℕ) → k < layers sh → k < layersMost → v ≡ countOf ws (blockStart sh k) (layerSize sh k) → CountedTo sh ws k ps → CountedTo sh ws (k + 1) (set ps k v)
   unfolding countAt

@@ -18,18 +18,17 @@ use Rattle.digits.proofs.Range.{Holds, holds-yes, range-23}
 use Rattle.digits.proofs.Expansion.{digit-past}
 use Rattle.digits.proofs.Offset.{flipAt, digit-offset}
 use Rattle.layers.specs.declared.Shape.{Shape}
-use Rattle.layers.specs.Lists.{at, tabulate, total}
-use Rattle.layers.specs.Sheet.{accepted, points, layers, layerSize, pointOf}
+use Rattle.layers.specs.Lists.{at}
+use Rattle.layers.specs.Sheet.{points, layers, layerSize, pointOf}
 use Rattle.layers.proofs.Lists.{length-tabulate, getD-tabulate}
 use Rattle.layers.proofs.Places.{point-on}
 use Rattle.header.specs.declared.Header.{Header}
 use Rattle.header.specs.Header.{placesMost, cellBytes, cellPoints, planesOf, planeCells}
-use Rattle.header.proofs.Total.{layers-most}
-use Rattle.header.proofs.Totals.{total-rises}
+use Rattle.header.proofs.Stores.{Put, put-none, put-more}
 use Rattle.card.specs.Planes.{packed, planeBit, planeBytes, atPlace, downFrom, body}
-use Rattle.card.specs.Words.{offset, wordOf, blockStart, wordsMost, Gathered, turned, digitIn, flatPlane, flatPlace, flatDown}
+use Rattle.card.specs.Words.{offset, wordOf, blockStart, Gathered, turned, digitIn, flatPlane, flatPlace, flatDown}
 use Rattle.card.proofs.Packing.{Bits, packed-same, packed-turned}
-use Rattle.card.proofs.Runs.{sets-sets}
+use Rattle.card.proofs.Runs.{tabulate-same}
 
 -- ---- a byte of digits from a byte of bits
 abbrev pub bitIn : List ℕ → ℕ → ℕ → ℕ
@@ -96,11 +95,11 @@ module _ (sh : Shape) (planes ws : List ℕ) (p : ℕ) where
   -- those of the layers before k stand in `out`, which was d, from `at` on: `to` is the byte after them
   module _ (d : List ℕ) (at : ℕ) where
     abbrev pub Laid : ℕ → ℕ → List ℕ → Type 0
-    Laid k to out = (to ≡ at + length (flatPlace sh planes ws p k)) × (out ≡ sets d at (flatPlace sh planes ws p k))
+    Laid k to out = Put d at (flatPlace sh planes ws p k) out to
 
     pub laid-none : Laid 0 at d
     unfolding flatPlace
-    laid-none = (omega arith, refl)
+    laid-none = put-none d at
 
     -- layer k's plane is stored behind them
     pub laid-yes : (k start c to to′ : ℕ) (out out′ : List ℕ) → p < getD planes k 0 → start ≡ blockStart sh k → c ≡ planeCells sh k
@@ -108,14 +107,11 @@ module _ (sh : Shape) (planes ws : List ℕ) (p : ℕ) where
     laid-yes k start c to to′ out out′ h a b l e f =
         let plane = flatPlane ws (blockStart sh k) (planeCells sh k) p in
         let is : flatPlane ws start c p ≡ plane = ap₂ (λ (start c : ℕ). flatPlane ws start c p) a b in
-        rw (place-yes k h) (
-          omega (arith, l .0, length-append (flatPlace sh planes ws p k) plane, flat-length ws (blockStart sh k) (planeCells sh k) p),
-          f ∙ rw (l .1, l .0, is) (sets-sets d at (flatPlace sh planes ws p k) plane),
-        )
+        rw (place-yes k h) (put-more plane out′ to′ l (omega (arith, flat-length ws (blockStart sh k) (planeCells sh k) p)) (f ∙ ap (sets out to) is))
 
     -- or it has none
     pub laid-no : (k to to′ : ℕ) (out out′ : List ℕ) → getD planes k 0 ≤ p → Laid k to out → to′ ≡ to → out′ ≡ out → Laid (k + 1) to′ out′
-    laid-no k to to′ out out′ h l e f = rw (place-no k h) (e ∙ l .0, f ∙ l .1)
+    laid-no k to to′ out out′ h l e f = rw (place-no k h, e, f) l
 
     pub laid-all : (k to : ℕ) (out : List ℕ) → k ≡ layers sh → Laid k to out → Laid (layers sh) to out
     laid-all k to out e l = rw e at l
@@ -132,25 +128,6 @@ module _ (sh : Shape) (planes ws : List ℕ) where
   -- the highest place first
   pub down-some : (n : ℕ) → 0 < n → flatDown sh planes ws n ≡ flatPlace sh planes ws (n - 1) (layers sh) ++ flatDown sh planes ws (n - 1)
   down-some n h = let e : n ≡ n - 1 + 1 = omega arith in ap (flatDown sh planes ws) e ∙ down-more (n - 1)
-
--- ---- where the words of a layer stand
-blocks : (f : ℕ → ℕ) (n : ℕ) → total (λ j. cellPoints * f j) n ≡ cellPoints * total f n
-unfolding total
-blocks f zero = refl
-blocks f (suc n) = omega (arith, blocks f n)
-
-pub start-none : (sh : Shape) → blockStart sh 0 ≡ 0
-unfolding blockStart total
-start-none sh = refl
-
-pub start-more : (sh : Shape) (k : ℕ) → blockStart sh (k + 1) ≡ blockStart sh k + cellPoints * planeCells sh k
-unfolding blockStart total
-start-more sh k = rw (add-one k)
-
--- and there is room for all
-pub start-most : (sh : Shape) → accepted sh ≡ true → (k : ℕ) → k ≤ layers sh → blockStart sh k ≤ wordsMost
-unfolding blockStart
-start-most sh ok k h = omega (arith, blocks (planeCells sh) k, total-rises (planeCells sh) k (layers sh) h, layers-most sh ok)
 
 -- ---- digits from words
 turned-flip : (p b : ℕ) → turned p b ≡ flipAt (p % 2) b
@@ -173,7 +150,8 @@ zero-held : Holds 0 (pos 0)
 unfolding evens odds
 zero-held = omega arith
 
-zero-holds : holds placesMost (pos 0) ≡ true
+-- 23 digits hold 0
+pub zero-holds : holds placesMost (pos 0) ≡ true
 unfolding holds evens odds
 zero-holds = refl
 
@@ -186,11 +164,6 @@ spare-digit p l =
     ap (λ (w : ℕ). turned p (w / 2 ^ p % 2)) (sym spare-word)
     ∙ word-digit (pos 0) p zero-holds l
     ∙ digit-past 0 p (pos 0) zero-held (omega arith)
-
-tabulate-same : (n : ℕ) (f g : ℕ → ℕ) → ((i : ℕ) → i < n → f i ≡ g i) → tabulate n f ≡ tabulate n g
-unfolding tabulate
-tabulate-same zero f g h = refl
-tabulate-same (suc n) f g h = rw (h 0 (omega arith), tabulate-same n (λ i. f (suc i)) (λ i. g (suc i)) (λ i l. h (suc i) (omega arith)))
 
 -- ---- planes from words are planes
 module _ (sh : Shape) (qs : List ℤ) (ws : List ℕ) (all : Gathered sh qs ws) (held : (j : ℕ) → j < points sh → holds placesMost (at qs j) ≡ true) where

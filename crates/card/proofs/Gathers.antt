@@ -18,7 +18,7 @@ use Rattle.header.specs.Header.{cellPoints, planeCells}
 use Rattle.header.proofs.Total.{plane-room}
 use Rattle.card.specs.Words.{offset, wordOf, blockStart, wordsMost, Gathered}
 use Rattle.card.proofs.Blocks.{block-next, blocks-apart, layer-room, block-room}
-use Rattle.card.proofs.Stores.{sets-in, sets-out}
+use Rattle.card.proofs.Runs.{sets-in, sets-out}
 
 -- the words of the first k layers stand in ws
 pub record GatheredTo (sh : Shape) (qs : List ℤ) (k : ℕ) (ws : List ℕ) : Type 0 where

@@ -7,6 +7,8 @@ pub mod Cards
 pub mod Counting
 pub mod FlatPlanes
 pub mod Gathers
+pub mod HeldLayers
+pub mod LayerPlanes
 pub mod Needed
 pub mod Packing
 pub mod PlaneSums
@@ -17,7 +19,6 @@ pub mod Runs
 pub mod SlotOrder
 pub mod SlotTests
 pub mod Spreads
-pub mod Stores
 pub mod Walk
 pub mod Weights
 pub mod WordSums

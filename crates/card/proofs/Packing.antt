@@ -18,6 +18,10 @@ pub packed-more : (n : ℕ) (f : ℕ → ℕ) → packed (n + 1) f ≡ f 0 + 2 *
 unfolding packed
 packed-more n f = rw (add-one n)
 
+-- the bits above the lowest
+pub bits-above : (x j : ℕ) → x / 2 / 2 ^ j ≡ x / 2 ^ suc j
+bits-above x j = div-div-eq-div-mul x 2 (2 ^ j) ∙ ap (λ (w : ℕ). x / w) (mul-comm 2 (2 ^ j) ∙ sym (pow-suc 2 j))
+
 -- packings of the same bits
 pub packed-same : (n : ℕ) (f g : ℕ → ℕ) → ((i : ℕ) → i < n → f i ≡ g i) → packed n f ≡ packed n g
 unfolding packed
@@ -37,8 +41,7 @@ packed-bit (suc n) f b zero h = ap (λ (x : ℕ). x % 2) (div-one (f 0 + 2 * pac
 packed-bit (suc n) f b (suc j) h =
     let x = f 0 + 2 * packed n (λ i. f (suc i)) in
     let half : x / 2 ≡ packed n (λ i. f (suc i)) = omega (arith, b 0) in
-    let down : x / 2 ^ suc j ≡ packed n (λ i. f (suc i)) / 2 ^ j =
-    ap (λ (k : ℕ). x / k) (pow-suc 2 j ∙ mul-comm (2 ^ j) 2) ∙ sym (div-div-eq-div-mul x 2 (2 ^ j)) ∙ ap (λ (y : ℕ). y / 2 ^ j) half in
+    let down : x / 2 ^ suc j ≡ packed n (λ i. f (suc i)) / 2 ^ j = sym (bits-above x j) ∙ ap (λ (y : ℕ). y / 2 ^ j) half in
     ap (λ (y : ℕ). y % 2) down ∙ packed-bit n (λ i. f (suc i)) (λ i. b (suc i)) j (le-of-suc-le-suc h)
 
 -- every bit turned over

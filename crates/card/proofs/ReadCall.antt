@@ -1,21 +1,19 @@
 -- Reading, by what each step answers: planes that are not fine are refused; fine ones give the coefficients of the words and the values rebuilt from them; and a plan within the whole planes loads planes that are in the bytes.
-use mathlib.Core.Bool.{true, false, _&&_}
+use mathlib.Core.Bool.{Bool, true, false}
 use mathlib.Core.List.{List, [], _∷_, _++_}
 use mathlib.Core.Path.{_≡_, sym, ap, _∙_}
-use Prim.Native.Nat.{ℕ, _+_, _-_, _<_, _≤_}
+use Prim.Native.Nat.{ℕ, _-_, _<_, _≤_}
 use native.Mathlib.Omega.{arith}
-use borrow.Author.Tests.{lt-ltb, le-ltb, ltb-true, leb-true, le-leb, eqb-true, eq-eqb, ne-eqb}
-use denote.Enum.Declared.{tagOf}
-use types.Run.{OneOf, miss}
-use lib.Dec.{ltb, leb, eqb}
+use borrow.Author.Tests.{lt-ltb, le-ltb, le-leb, eqb-true, eq-eqb, ne-eqb}
+use lib.Dec.{ltb, eqb}
 use lib.IntN.{ℤ}
 use lib.ListN.{length, drop, length-append}
-use Rattle.integers.proofs.Bools.{by, and-left, and-right, and-both, and-no-left, and-no-right}
+use Rattle.integers.proofs.Bools.{by, and-left, and-right, and-both, not-yes}
 use Rattle.layers.specs.Calls.{settled, full, rebuildable, rebuilding}
 use Rattle.layers.specs.Layering.{layering, rebuilt}
 use Rattle.layers.specs.Limits.{layersMost, stepMost}
 use Rattle.layers.specs.Sheet.{points}
-use Rattle.layers.proofs.Lists.{getD-tabulate, length-tabulate}
+use Rattle.layers.proofs.Lists.{length-tabulate}
 use Rattle.header.specs.declared.Header.{Header}
 use Rattle.header.specs.declared.Opened.{Opened}
 use Rattle.header.specs.declared.Plan.{Plan}
@@ -28,14 +26,30 @@ use Rattle.header.specs.Opening.{Opening, opening, right}
 use Rattle.header.specs.Opening as O
 use Rattle.header.specs.CardOrder.{whole, wholePlan, wholeIn}
 use Rattle.header.specs.Figure.{figureOf, boundOf}
-use Rattle.header.proofs.Refusal.{the-type}
 use Rattle.header.proofs.Over.{over-none, none-over}
 use Rattle.header.proofs.Rightness.{right-yes, layers-few}
 use Rattle.header.proofs.Whole.{whole-fits, whole-most, counted-whole}
 use Rattle.header.proofs.Opens.{Opens, opened-right}
-use Rattle.card.specs.Reading.{no, slots, firstBad, coefsRead, readWhole, goodLengths, readOpened, reading, showing}
+use Rattle.header.proofs.Refusing.{opened-accepts}
+use Rattle.card.specs.Reading.{Reading, no, slots, firstBad, coefsRead, readWhole, goodLengths, readOpened, reading, showing}
 use Rattle.card.specs.Words.{AllThere, loadedAs}
 use Rattle.card.specs.declared.Loaded.the-variants.{Fine, Bad}
+use Rattle.card.proofs.LayerPlanes.{whole-at, loaded-yes}
+
+-- ---- what a reading that is not refused answers
+abbrev pub readAs : Header → ℕ → List ℕ → Plan → Reading
+readAs h long bs plan =
+    record {
+      refused = refusal 0 0 0;
+      plan = plan;
+      figure = figureOf h (loads plan);
+      coefficients = coefsRead h long bs (loads plan);
+      values = rebuilt (layering (h .shape) (h .curve)) (h .step) (coefsRead h long bs (loads plan));
+    }
+
+pub coefs-long : (h : Header) (long : ℕ) (bs : List ℕ) (plan : ℕ → ℕ) → length (coefsRead h long bs plan) ≡ points (h .shape)
+unfolding coefsRead
+coefs-long h long bs plan = length-tabulate (points (h .shape)) _
 
 -- ---- the calls that reading makes, behind a right header
 module _ (h : Header) (r : right h ≡ true) where
@@ -53,6 +67,20 @@ module _ (h : Header) (r : right h ≡ true) where
   pub whole-is : (n : ℕ) → wholeIn h n ≡ wholePlan h n
   unfolding wholeIn
   whole-is n = rw r
+
+-- ---- the lengths of the slices
+module _ (qs vs : List ℤ) (h : Header) where
+  abbrev fills : List ℤ → Bool
+  fills l = eqb (length l) (points (h .shape))
+
+  pub lengths-good : length qs ≡ points (h .shape) → length vs ≡ points (h .shape) → goodLengths qs vs h ≡ true
+  lengths-good q v = and-both (fills qs) (fills vs) (eq-eqb _ _ q) (eq-eqb _ _ v)
+
+  pub good-lengths : goodLengths qs vs h ≡ true → (length qs ≡ points (h .shape)) × (length vs ≡ points (h .shape))
+  good-lengths g = (eqb-true _ _ (and-left (fills qs) (fills vs) g), eqb-true _ _ (and-right (fills qs) (fills vs) g))
+
+  pub lengths-wrong : (length qs ≡ points (h .shape) → length vs ≡ points (h .shape) → ⊥) → goodLengths qs vs h ≡ false
+  lengths-wrong n = not-yes (goodLengths qs vs h) (λ g. n (good-lengths g .0) (good-lengths g .1))
 
 -- ---- the planes of a plan
 bad-fine : {k : ℕ} → Bad k ≡ Fine → ⊥
@@ -77,14 +105,7 @@ module _ (h : Header) (long : ℕ) (bs : List ℕ) (plan : Plan) (qs vs : List �
       (λ t. rw t (ap (λ (j : ℕ). no qs vs (refusal 8 j 0)) (bad-same (rw t at e))))
       (λ t. absurd (bad-fine (rw t at e)))
 
-  pub read-fine : Fine ≡ loadedAs h long bs (loads plan)
-      → record {
-        refused = refusal 0 0 0;
-        plan = plan;
-        figure = figureOf h (loads plan);
-        coefficients = coefsRead h long bs (loads plan);
-        values = rebuilt (layering (h .shape) (h .curve)) (h .step) (coefsRead h long bs (loads plan));
-      } ≡ readWhole qs vs h long bs plan slot
+  pub read-fine : Fine ≡ loadedAs h long bs (loads plan) → readAs h long bs plan ≡ readWhole qs vs h long bs plan slot
   read-fine e = by (ltb slot all) (λ t. absurd (fine-bad (rw t at e))) (λ t. rw t)
 
 -- the slices that the calls leave
@@ -93,14 +114,12 @@ module _ (h : Header) (long : ℕ) (bs : List ℕ) (plan : Plan) (qs vs : List �
   pub read-done : Fine ≡ loadedAs h long bs (loads plan) → (q v : List ℤ) (n : ℕ)
       → q ≡ coefsRead h long bs (loads plan) → v ≡ rebuilding (h .shape) (h .curve) (h .step) q vs → n ≡ boundOf h plan
       → record { refused = refusal 0 0 0; plan = plan; figure = n; coefficients = q; values = v } ≡ readWhole qs vs h long bs plan (firstBad h long bs (loads plan))
-  unfolding coefsRead
   read-done fine q v n eq ev en =
       let sh = h .shape in
-      let many : length q ≡ points sh = ap length eq ∙ length-tabulate (points sh) _ in
-      let full-v = eqb-true (length vs) (points sh) (and-right (eqb (length qs) (points sh)) (eqb (length vs) (points sh)) good) in
+      let many : length q ≡ points sh = ap length eq ∙ coefs-long h long bs (loads plan) in
       let figures : n ≡ figureOf h (loads plan) = en ∙ bound-right h r plan e in
-      let vals : v ≡ rebuilt (layering sh (h .curve)) (h .step) (coefsRead h long bs (loads plan)) = ev ∙ rebuilt-is h r q vs many full-v ∙ ap (rebuilt (layering sh (h .curve)) (h .step)) eq in
-      _∙_ {b = record { refused = refusal 0 0 0; plan = plan; figure = figureOf h (loads plan); coefficients = coefsRead h long bs (loads plan); values = rebuilt (layering sh (h .curve)) (h .step) (coefsRead h long bs (loads plan)) }}
+      let vals : v ≡ rebuilt (layering sh (h .curve)) (h .step) (coefsRead h long bs (loads plan)) = ev ∙ rebuilt-is h r q vs many (good-lengths qs vs h good .1) ∙ ap (rebuilt (layering sh (h .curve)) (h .step)) eq in
+      _∙_ {b = readAs h long bs plan}
       (λ i. record { refused = refusal 0 0 0; plan = plan; figure = figures i; coefficients = eq i; values = vals i })
       (read-fine h long bs plan qs vs fine)
 
@@ -108,29 +127,24 @@ module _ (h : Header) (long : ℕ) (bs : List ℕ) (plan : Plan) (qs vs : List �
 module _ (h : Header) (r : right h ≡ true) (long : ℕ) (bs : List ℕ) (plan : Plan) (here : long ≤ length bs)
     (e : firstOver (loads (wholePlan h (length bs - long))) (loads plan) ≡ layersMost) where
   within : (k : ℕ) → k < layersMost → loads plan k ≤ whole h (length bs - long) k
-  within k l = omega (arith, over-none (loads (wholePlan h (length bs - long))) (loads plan) e k l, getD-tabulate layersMost (whole h (length bs - long)) k 0 l)
+  within k l = omega (arith, over-none (loads (wholePlan h (length bs - long))) (loads plan) e k l, whole-at h (length bs - long) k l)
 
   pub plan-within : firstOver (planesOf h) (loads plan) ≡ layersMost
   plan-within = none-over (planesOf h) (loads plan) (λ k l. omega (arith, within k l, whole-most h (length bs - long) k))
 
   pub all-there : AllThere h long bs (loads plan)
   all-there k p hk t =
-      let has = ltb-true p (planesOf h k) (and-left (ltb p (planesOf h k)) (leb (planesOf h k) (p + loads plan k)) t) in
-      let top = leb-true (planesOf h k) (p + loads plan k) (and-right (ltb p (planesOf h k)) (leb (planesOf h k) (p + loads plan k)) t) in
+      let l = loaded-yes h long bs (loads plan) k p t in
       let few = layers-few (right-yes h r) in
       let n = length bs - long in
-      let w = counted-whole h n k hk p has (omega (arith, within k (omega arith))) in
+      let w = counted-whole h n k hk p (l .0) (omega (arith, l .1, within k (omega arith))) in
       omega (arith, whole-fits h n k p w)
 
 -- ---- behind an opening
 module _ (qs vs : List ℤ) (bs : List ℕ) (h : Header) (long : ℕ) (plan : Plan) where
   pub lengths-bad : (length qs ≡ points (h .shape) → length vs ≡ points (h .shape) → ⊥) → no qs vs (refusal 3 0 0) ≡ readOpened qs vs bs h long plan
   unfolding readOpened
-  lengths-bad n =
-      let a = eqb (length qs) (points (h .shape)) in
-      let b = eqb (length vs) (points (h .shape)) in
-      let f : a && b ≡ false = by a (λ q. and-no-right a b (ne-eqb _ _ (n (eqb-true _ _ q)))) (λ q. and-no-left a b q) in
-      rw f
+  lengths-bad n = rw (lengths-wrong qs vs h n)
 
   module _ (good : goodLengths qs vs h ≡ true) where
     abbrev place : ℕ
@@ -144,25 +158,7 @@ module _ (qs vs : List ℤ) (bs : List ℕ) (h : Header) (long : ℕ) (plan : Pl
     unfolding readOpened
     over-good l = rw (good, le-ltb place layersMost (omega arith))
 
-pub lengths-good : (qs vs : List ℤ) (h : Header) → length qs ≡ points (h .shape) → length vs ≡ points (h .shape) → goodLengths qs vs h ≡ true
-lengths-good qs vs h q v = and-both _ _ (eq-eqb _ _ q) (eq-eqb _ _ v)
-
 -- ---- what opening answers
--- every variant but the first is a refusal
-pub refusing : (r : Refusal) → OneOf (1 ∷ 2 ∷ 3 ∷ 4 ∷ 5 ∷ 6 ∷ 7 ∷ 8 ∷ 9 ∷ 10 ∷ 11 ∷ []) (tagOf the-type r) → detailsOf r .number ≡ 0 → ⊥
-refusing F.Accepted k e = miss (1 ∷ 2 ∷ 3 ∷ 4 ∷ 5 ∷ 6 ∷ 7 ∷ 8 ∷ 9 ∷ 10 ∷ 11 ∷ []) 0 tt k
-refusing F.BadSize k e = omega arith
-refusing F.BadSettings k e = omega arith
-refusing F.BadLengths k e = omega arith
-refusing (F.BadSample row col) k e = omega arith
-refusing F.HeaderCut k e = omega arith
-refusing (F.BadLine line) k e = omega arith
-refusing F.TrailingBytes k e = omega arith
-refusing (F.BadPlane layer) k e = omega arith
-refusing (F.BadPlan place) k e = omega arith
-refusing F.LimitBelowStep k e = omega arith
-refusing F.BadCoefficient k e = omega arith
-
 module _ (bs : List ℕ) (o : Opened) (e : O.told o ≡ opening bs) where
   pub read-refused : (qs vs : List ℤ) (plan : Plan) → (detailsOf (o .refusal) .number ≡ 0 → ⊥) → no qs vs (detailsOf (o .refusal)) ≡ reading qs vs bs plan
   unfolding reading
@@ -174,10 +170,7 @@ module _ (bs : List ℕ) (o : Opened) (e : O.told o ≡ opening bs) where
 
   module _ (yes : o .refusal ≡ F.Accepted) where
     opens : Opens bs (opening bs .header) (opening bs .long)
-    opens = opened-right bs (ap (λ (x : Opening). x .refused .number) (sym e) ∙ ap (λ (f : Refusal). detailsOf f .number) yes)
-
-    pub header-right : right (o .header) ≡ true
-    header-right = ap (λ (x : Opening). right (x .header)) e ∙ opens .right-is
+    opens = opened-right bs (opened-accepts bs o e yes)
 
     pub header-here : o .length ≤ length bs
     header-here =

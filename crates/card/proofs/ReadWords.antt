@@ -23,11 +23,12 @@ use Rattle.layers.proofs.SheetLaw.{sheet-proper}
 use Rattle.header.specs.declared.Header.{Header}
 use Rattle.header.specs.Header.{placesMost, planesOf}
 use Rattle.header.specs.Opening.{right}
-use Rattle.header.proofs.Rightness.{Right, right-yes, counts-few, layers-few}
+use Rattle.header.proofs.Rightness.{Right, right-yes}
 use Rattle.header.proofs.Totals.{total-same}
 use Rattle.card.specs.Planes.{ownLayer}
 use Rattle.card.specs.Reading.{bitOf, loaded, coefRead, coefsRead}
 use Rattle.card.specs.Words.{blockStart, spreadAll, wordRead, Read}
+use Rattle.card.proofs.LayerPlanes.{few-planes}
 
 -- ---- a word by its bits
 total-front : (b : ℕ → ℕ) (n : ℕ) → total (λ p. b p * 2 ^ p) (suc n) ≡ b 0 + 2 * total (λ p. b (suc p) * 2 ^ p) n
@@ -107,7 +108,7 @@ module _ (h : Header) (long : ℕ) (bs : List ℕ) (plan : ℕ → ℕ) where
       let e = w .word k i hk hi in
       getD-tabulate n _ p (pos 0) hp
       ∙ ap (λ (x : ℕ). value (bitsOf 32 x)) e
-      ∙ number-read k i (counts-few r k (omega (arith, layers-few r))) (rw (← e) (w .small (blockStart sh k + i)))
+      ∙ number-read k i (few-planes r k hk) (rw (← e) (w .small (blockStart sh k + i)))
       ∙ sym (getD-tabulate n _ p (pos 0) hp))
 
   pub read-right : (ws : List ℕ) → right h ≡ true → Read h long bs plan ws → spreadAll (h .shape) ws ≡ coefsRead h long bs plan

@@ -1,43 +1,54 @@
 -- Refining, by what each step answers: the next plane of a layer is in the bytes where it is whole; where it is fine its digits are added, and the plan with it is still one of the header's.
-use mathlib.Core.Bool.{Bool, true, false, _&&_}
+use mathlib.Core.Bool.{Bool, true, false}
 use mathlib.Core.List.{List}
 use mathlib.Core.Path.{_≡_, sym, ap, _∙_}
 use Prim.Native.Nat.{ℕ, suc, _+_, _*_, _-_, _^_, _<_, _≤_}
 use native.Mathlib.Decide.{ℕ-discrete, decLt}
 use native.Mathlib.Numerals.{add-one}
 use native.Mathlib.Omega.{arith}
-use borrow.Author.Tests.{lt-ltb, le-ltb, eqb-true, ne-eqb}
+use borrow.Author.Tests.{lt-ltb, le-ltb, ne-eqb}
 use lib.Dec.{ltb, eqb}
 use lib.IntN.{ℤ}
-use lib.ListN.{length, getD, set, length-set, List·getD-eq-default}
+use lib.ListN.{length, set, length-set, List·getD-eq-default}
 use lib.Seq.{getD-set-same, getD-set-other}
-use Rattle.integers.proofs.Bools.{by, and-left, and-right, and-no-left, and-no-right}
 use Rattle.layers.specs.declared.Shape.{Shape}
 use Rattle.layers.specs.Calls.{rebuilding}
 use Rattle.layers.specs.Layering.{layering, rebuilt}
 use Rattle.layers.specs.Limits.{layersMost}
 use Rattle.layers.specs.Sheet.{points, layers, layerSize}
-use Rattle.layers.proofs.Lists.{getD-tabulate, length-tabulate}
+use Rattle.layers.proofs.Lists.{length-tabulate}
 use Rattle.header.specs.declared.Header.{Header}
 use Rattle.header.specs.declared.Opened.{Opened}
 use Rattle.header.specs.declared.Plan.{Plan}
 use Rattle.header.specs.declared.Refusal.the-variants as F
 use Rattle.header.specs.Refusals.{refusal, detailsOf}
-use Rattle.header.specs.Header.{placesMost, cellBytes, planesOf, planeCells}
+use Rattle.header.specs.Header.{cellBytes, planesOf, planeCells}
 use Rattle.header.specs.Plan.{loads, firstOver, withPlane}
 use Rattle.header.specs.Opening.{opening, right}
 use Rattle.header.specs.Opening as O
 use Rattle.header.specs.CardOrder.{cellsBefore, cellsBeforeIn, whole, wholePlan}
 use Rattle.header.specs.Figure.{figureOf, boundOf}
 use Rattle.header.proofs.Over.{over-none, none-over}
-use Rattle.header.proofs.Rightness.{right-yes, layers-few, counts-few}
+use Rattle.header.proofs.Rightness.{right-yes, layers-few}
 use Rattle.header.proofs.Whole.{whole-fits, whole-most, counted-whole}
-use Rattle.card.specs.Reading.{fine, goodLengths}
+use Rattle.card.specs.Reading.{Reading, fine, goodLengths}
 use Rattle.card.specs.Reading as R
 use Rattle.card.specs.Refining.{allHeld, coefsPlus, coefsWith, refinePlane, refineOpened, refining}
 use Rattle.card.specs.Words.{bitAt, fineAt}
 use Rattle.card.proofs.WordSums.{bit-of, fine-at}
-use Rattle.card.proofs.ReadCall.{rebuilt-is, bound-right}
+use Rattle.card.proofs.ReadCall.{rebuilt-is, bound-right, good-lengths, lengths-wrong}
+use Rattle.card.proofs.LayerPlanes.{few-planes, whole-at}
+
+-- ---- what a refinement that is not refused answers
+abbrev pub refinedAs : Header → ℕ → List ℕ → Plan → ℕ → ℕ → List ℤ → Reading
+refinedAs h long bs plan k p qs =
+    record {
+      refused = refusal 0 0 0;
+      plan = withPlane plan k;
+      figure = figureOf h (loads (withPlane plan k));
+      coefficients = coefsWith h long bs k p qs;
+      values = rebuilt (layering (h .shape) (h .curve)) (h .step) (coefsWith h long bs k p qs);
+    }
 
 -- adding digits keeps the length
 plus-long : (sh : Shape) (k p : ℕ) (digit : ℕ → ℕ) (qs : List ℤ) → length (coefsPlus sh k p digit qs) ≡ length qs
@@ -52,9 +63,6 @@ module _ (h : Header) (r : right h ≡ true) (plan : Plan) (k : ℕ) (hk : k < l
   pub layer-few : k < layersMost
   layer-few = omega (arith, layers-few (right-yes h r))
 
-  pub few : planesOf h k ≤ placesMost
-  few = counts-few (right-yes h r) k layer-few
-
   -- where it stands, by the place that the code works with
   pub before-is : (q : ℕ) → q ≡ Next → cellsBeforeIn h k q ≡ cellsBefore h k Next
   unfolding cellsBeforeIn
@@ -63,37 +71,34 @@ module _ (h : Header) (r : right h ≡ true) (plan : Plan) (k : ℕ) (hk : k < l
       rw (e, r, lt-ltb k layersMost layer-few, lt-ltb Next (planesOf h k) l)
 
   -- the plan with it
-  loads-next : (j : ℕ) → getD (set (plan .planes) k (loads plan k + 1)) j 0 ≤ loads plan j + 1
-  loads-next j =
-      elim (ℕ-discrete j k) [
-        | yes e ↦
-            elim (decLt k (length (plan .planes))) [
-              | yes l ↦ rw e (omega (arith, getD-set-same (plan .planes) k (loads plan k + 1) 0 l))
-              | no l ↦
-                  let out : length (set (plan .planes) k (loads plan k + 1)) ≤ j = omega (arith, length-set (plan .planes) k (loads plan k + 1)) in
-                  omega (arith, List·getD-eq-default (set (plan .planes) k (loads plan k + 1)) 0 out)
-            ]
-        | no n ↦ omega (arith, getD-set-other (plan .planes) k j (loads plan k + 1) 0 n)
+  pub with-is : withPlane plan k ≡ record { planes = set (plan .planes) k (loads plan k + 1) }
+  unfolding withPlane
+  with-is =
+      let l : loads plan k + 1 < 2 ^ 64 = omega (arith, few-planes (right-yes h r) k hk) in
+      rw (lt-ltb k layersMost layer-few, lt-ltb (loads plan k + 1) (2 ^ 64) l)
+
+  -- has at most one plane more there
+  with-most : loads (withPlane plan k) k ≤ loads plan k + 1
+  with-most =
+      let more = set (plan .planes) k (loads plan k + 1) in
+      elim (decLt k (length (plan .planes))) [
+        | yes l ↦ omega (arith, ap (λ (p : Plan). loads p k) with-is, getD-set-same (plan .planes) k (loads plan k + 1) 0 l)
+        | no l ↦
+            let out : length more ≤ k = omega (arith, length-set (plan .planes) k (loads plan k + 1)) in
+            omega (arith, ap (λ (p : Plan). loads p k) with-is, List·getD-eq-default more 0 out)
       ]
 
-  loads-other : (j : ℕ) → (j ≡ k → ⊥) → getD (set (plan .planes) k (loads plan k + 1)) j 0 ≡ loads plan j
-  loads-other j n = getD-set-other (plan .planes) k j (loads plan k + 1) 0 n
-
-  with-is : withPlane plan k ≡ record { planes = set (plan .planes) k (loads plan k + 1) }
-  unfolding withPlane
-  with-is = rw (lt-ltb k layersMost layer-few, lt-ltb (loads plan k + 1) (2 ^ 64) (let l : loads plan k + 1 < 2 ^ 64 = omega (arith, few) in l))
+  -- and the same elsewhere
+  pub with-other : (j : ℕ) → (j ≡ k → ⊥) → loads (withPlane plan k) j ≡ loads plan j
+  with-other j n = ap (λ (p : Plan). loads p j) with-is ∙ getD-set-other (plan .planes) k j (loads plan k + 1) 0 n
 
   module _ (in-plan : firstOver (planesOf h) (loads plan) ≡ layersMost) where
     pub with-within : firstOver (planesOf h) (loads (withPlane plan k)) ≡ layersMost
     with-within =
         none-over (planesOf h) (loads (withPlane plan k)) (λ j l.
-        let e : loads (withPlane plan k) j ≡ getD (set (plan .planes) k (loads plan k + 1)) j 0 = ap (λ (p : Plan). loads p j) with-is in
         elim (ℕ-discrete j k) [
-          | yes q ↦
-              let a : loads plan j ≡ loads plan k = ap (loads plan) q in
-              let b : planesOf h j ≡ planesOf h k = ap (planesOf h) q in
-              omega (arith, loads-next j)
-          | no n ↦ omega (arith, loads-other j n, over-none (planesOf h) (loads plan) in-plan j l)
+          | yes q ↦ rw q (omega (arith, with-most))
+          | no n ↦ omega (arith, with-other j n, over-none (planesOf h) (loads plan) in-plan j l)
         ])
 
     -- the digits are added and the values rebuilt
@@ -104,19 +109,16 @@ module _ (h : Header) (r : right h ≡ true) (plan : Plan) (k : ℕ) (hk : k < l
           → record { refused = refusal 0 0 0; plan = pl; figure = n; coefficients = q; values = v } ≡ refinePlane qs vs h long bs plan k Next
       refine-done good-bits q v pl n p from ep ef eq ev el en =
           let sh = h .shape in
-          let a = eqb (length qs) (points sh) in
-          let b = eqb (length vs) (points sh) in
-          let full-q = eqb-true (length qs) (points sh) (and-left a b good) in
-          let full-v = eqb-true (length vs) (points sh) (and-right a b good) in
+          let full = good-lengths qs vs h good in
           let same : q ≡ coefsWith h long bs k Next qs =
           eq
           ∙ ap (λ (x : ℕ). coefsPlus sh k x (bitAt bs from) qs) ep
           ∙ ap (λ (x : ℕ). coefsPlus sh k Next (bitAt bs x) qs) ef
           ∙ ap (λ (d : ℕ → ℕ). coefsPlus sh k Next d qs) (λ t i. sym (bit-of h long bs (loads plan) k Next i) t) in
-          let many : length q ≡ points sh = ap length eq ∙ plus-long sh k p (bitAt bs from) qs ∙ full-q in
-          let vals : v ≡ rebuilt (layering sh (h .curve)) (h .step) (coefsWith h long bs k Next qs) = ev ∙ rebuilt-is h r q vs many full-v ∙ ap (rebuilt (layering sh (h .curve)) (h .step)) same in
+          let many : length q ≡ points sh = ap length eq ∙ plus-long sh k p (bitAt bs from) qs ∙ full .0 in
+          let vals : v ≡ rebuilt (layering sh (h .curve)) (h .step) (coefsWith h long bs k Next qs) = ev ∙ rebuilt-is h r q vs many (full .1) ∙ ap (rebuilt (layering sh (h .curve)) (h .step)) same in
           let figures : n ≡ figureOf h (loads (withPlane plan k)) = en ∙ ap (boundOf h) el ∙ bound-right h r (withPlane plan k) with-within in
-          _∙_ {b = record { refused = refusal 0 0 0; plan = withPlane plan k; figure = figureOf h (loads (withPlane plan k)); coefficients = coefsWith h long bs k Next qs; values = rebuilt (layering sh (h .curve)) (h .step) (coefsWith h long bs k Next qs) }}
+          _∙_ {b = refinedAs h long bs plan k Next qs}
           (λ t. record { refused = refusal 0 0 0; plan = el t; figure = figures t; coefficients = same t; values = vals t })
           (rw good-bits)
 
@@ -137,11 +139,7 @@ module _ (h : Header) (r : right h ≡ true) (plan : Plan) (k : ℕ) (hk : k < l
 module _ (qs vs : List ℤ) (bs : List ℕ) (h : Header) (long : ℕ) (plan : Plan) (k : ℕ) where
   pub refine-lengths : (length qs ≡ points (h .shape) → length vs ≡ points (h .shape) → ⊥) → R.no qs vs (refusal 3 0 0) ≡ refineOpened qs vs bs h long plan k
   unfolding refineOpened
-  refine-lengths n =
-      let a = eqb (length qs) (points (h .shape)) in
-      let b = eqb (length vs) (points (h .shape)) in
-      let f : a && b ≡ false = by a (λ q. and-no-right a b (ne-eqb _ _ (n (eqb-true _ _ q)))) (λ q. and-no-left a b q) in
-      rw f
+  refine-lengths n = rw (lengths-wrong qs vs h n)
 
   module _ (good : goodLengths qs vs h ≡ true) where
     abbrev limit : ℕ → ℕ
@@ -180,7 +178,7 @@ module _ (qs vs : List ℤ) (bs : List ℕ) (h : Header) (long : ℕ) (plan : Pl
 module _ (h : Header) (r : right h ≡ true) (long : ℕ) (bs : List ℕ) (plan : Plan) (k : ℕ) (here : long ≤ length bs)
     (hk : k < layers (h .shape)) (more : loads plan k < loads (wholePlan h (length bs - long)) k) where
   further : loads plan k < whole h (length bs - long) k
-  further = omega (arith, layers-few (right-yes h r), getD-tabulate layersMost (whole h (length bs - long)) k 0 (let l : k < layersMost = omega (arith, layers-few (right-yes h r)) in l))
+  further = omega (arith, whole-at h (length bs - long) k (omega (arith, layers-few (right-yes h r))))
 
   pub next-named : loads plan k < planesOf h k
   next-named = omega (arith, further, whole-most h (length bs - long) k)

@@ -1,27 +1,25 @@
 -- Slots in card order, by division with remainder: slot t is place 22 - t / K of layer t % K, and one slot on is one layer on, or layer 0 one place down. So the cells before it and the start of its layer's words go on from slot to slot.
 use mathlib.Core.Path.{_≡_, refl, sym, ap, ap₂, _∙_}
 use mathlib.Core.Bool.{Bool, true, false, cond}
-use Prim.Native.Nat.{ℕ, zero, suc, _+_, _*_, _-_, _/_, _%_, _<_, _≤_}
-use native.Mathlib.Nat.{le-refl, add-zero, mod-lt, mod-eq-of-lt, zero-div, mul-le-mul-left, div-add-mod', div-lt-iff-lt-mul}
+use Prim.Native.Nat.{ℕ, suc, _+_, _*_, _-_, _/_, _%_, _<_, _≤_}
+use native.Mathlib.Nat.{add-zero, mod-lt, mod-eq-of-lt, zero-div, mul-le-mul-left, div-add-mod', div-lt-iff-lt-mul}
 use native.Mathlib.Numerals.{add-one}
-use native.Mathlib.Decide.{decLt, ℕ-discrete}
+use native.Mathlib.Decide.{decLt}
 use native.Mathlib.Omega.{arith}
-use borrow.Author.Tests.{lt-ltb, ltb-true, ltb-false, eqb-true, eqb-false}
+use borrow.Author.Tests.{ltb-true, ltb-false, eqb-true, eqb-false}
 use lib.Arith.{digits-lt, digits-div, digits-mod}
 use lib.Dec.{ltb, eqb}
-use Rattle.digits.specs.Digits.{firstFrom}
 use Rattle.layers.specs.declared.Shape.{Shape}
-use Rattle.layers.specs.Lists.{total}
-use Rattle.layers.specs.Sheet.{accepted, layers, layerSize}
-use Rattle.layers.specs.Calls.{sizing}
-use Rattle.integers.proofs.Bools.{by, cond-yes, cond-no}
+use Rattle.layers.specs.Sheet.{accepted, layers}
+use Rattle.integers.proofs.Bools.{by}
 use Rattle.header.specs.declared.Header.{Header}
 use Rattle.header.specs.Header.{placesMost, cellBytes, cellPoints, cellsMost, planesOf, planeCells, cellsOf}
 use Rattle.header.specs.CardOrder.{planesBefore, cellsBefore}
-use Rattle.header.proofs.Totals.{total-le, total-suc, total-rises}
-use Rattle.header.proofs.Total.{layers-most, cells-most}
+use Rattle.header.proofs.Totals.{total-le}
+use Rattle.header.proofs.Total.{cells-most}
 use Rattle.header.proofs.CardOrder.{first-place, next-layer, next-none, next-place}
-use Rattle.card.specs.Words.{blockStart, wordsMost}
+use Rattle.card.specs.Words.{blockStart}
+use Rattle.card.proofs.Blocks.{block-none, block-suc}
 
 -- the slot of layer k at place p, of K layers
 abbrev pub slotNo : ℕ → ℕ → ℕ → ℕ
@@ -122,46 +120,12 @@ module _ (h : Header) (few : (k : ℕ) → k < layers (h .shape) → planesOf h 
   cells-few ok k p = omega (arith, cells-within k p, cells-most (h .shape) ok (h .planes) few)
 
 -- ---- where a layer's words begin
-total-times : (f : ℕ → ℕ) (a n : ℕ) → total (λ j. a * f j) n ≡ a * total f n
-unfolding total
-total-times f a zero = omega arith
-total-times f a (suc n) = omega (arith, total-times f a n)
-
 module _ (sh : Shape) where
-  pub block-none : blockStart sh 0 ≡ 0
-  unfolding blockStart total
-  block-none = refl
-
-  pub block-next : (k : ℕ) → blockStart sh (suc k) ≡ blockStart sh k + cellPoints * planeCells sh k
-  unfolding blockStart
-  block-next k = total-suc (λ j. cellPoints * planeCells sh j) k
-
-  blocks-rise : (j k : ℕ) → j ≤ k → blockStart sh j ≤ blockStart sh k
-  unfolding blockStart
-  blocks-rise j k l = total-rises (λ j. cellPoints * planeCells sh j) j k l
-
-  -- blocks lie apart
-  pub blocks-apart : (j k : ℕ) → j < k → blockStart sh j + cellPoints * planeCells sh j ≤ blockStart sh k
-  blocks-apart j k l = omega (arith, block-next j, blocks-rise (suc j) k l)
-
-  pub blocks-room : accepted sh ≡ true → blockStart sh (layers sh) ≤ wordsMost
-  unfolding blockStart
-  blocks-room ok = omega (arith, total-times (planeCells sh) cellPoints (layers sh), layers-most sh ok)
-
-  -- every place before the end stands in a block
-  pub in-block : {P : Type 0} (n j : ℕ) → j < blockStart sh n → ((k i : ℕ) → k < n → i < cellPoints * planeCells sh k → blockStart sh k + i ≡ j → P) → P
-  in-block zero j l f = absurd (let z : ⊥ = omega (arith, block-none) in z)
-  in-block (suc n) j l f =
-      elim (decLt j (blockStart sh n)) [
-        | yes m ↦ in-block n j m (λ k i a b e. f k i (omega arith) b e)
-        | no m ↦ f n (j - blockStart sh n) (le-refl (suc n)) (omega (arith, block-next n)) (omega arith)
-      ]
-
   -- as the loop finds it
   pub start-is : (k start : ℕ) → (0 < k → start ≡ blockStart sh k) → cond (eqb k 0) 0 start ≡ blockStart sh k
   start-is k start h =
       by (eqb k 0)
-      (λ e. rw e (sym (ap (blockStart sh) (eqb-true k 0 e) ∙ block-none)))
+      (λ e. rw e (sym (ap (blockStart sh) (eqb-true k 0 e) ∙ block-none sh)))
       (λ e. rw e (h (omega (arith, eqb-false k 0 e))))
 
   -- from one layer to the next
@@ -170,28 +134,6 @@ module _ (sh : Shape) where
       let some : 0 < layers sh = omega arith in
       let k : t % layers sh < layers sh = mod-lt t some in
       elim (decLt (t % layers sh + 1) (layers sh)) [
-        | yes m ↦ e ∙ sym (block-next (t % layers sh)) ∙ ap (blockStart sh) (sym (next-inside (layers sh) some t m .1 ∙ add-one (t % layers sh)))
+        | yes m ↦ e ∙ sym (block-suc sh (t % layers sh)) ∙ ap (blockStart sh) (sym (next-inside (layers sh) some t m .1 ∙ add-one (t % layers sh)))
         | no m ↦ let q : t % layers sh + 1 ≡ layers sh = omega arith in absurd (let z : ⊥ = omega (arith, next-first (layers sh) some t q .1) in z)
       ]
-
--- ---- the first that passes a test
-pub first-at : (t : ℕ → Bool) (f n m : ℕ) → n ≤ m → m < n + f → t m ≡ true → ((i : ℕ) → n ≤ i → i < m → t i ≡ false) → firstFrom t f n ≡ m
-unfolding firstFrom
-first-at t zero n m l k y h = absurd (let z : ⊥ = omega arith in z)
-first-at t (suc f) n m l k y h =
-    elim (ℕ-discrete n m) [
-      | yes q ↦ cond-yes (t n) n (firstFrom t f (suc n)) (ap t q ∙ y) ∙ q
-      | no q ↦ cond-no (t n) n (firstFrom t f (suc n)) (h n (le-refl n) (omega arith)) ∙ first-at t f (suc n) m (omega arith) (omega arith) y (λ i a b. h i (omega arith) b)
-    ]
-
-pub first-none : (t : ℕ → Bool) (f n : ℕ) → ((i : ℕ) → n ≤ i → i < n + f → t i ≡ false) → firstFrom t f n ≡ n + f
-unfolding firstFrom
-first-none t zero n h = sym (add-zero n)
-first-none t (suc f) n h =
-    let e : suc n + f ≡ n + suc f = omega arith in
-    cond-no (t n) n (firstFrom t f (suc n)) (h n (le-refl n) (omega arith)) ∙ first-none t f (suc n) (λ i a b. h i (omega arith) (omega arith)) ∙ e
-
--- ---- a layer that is there
-pub size-inside : (sh : Shape) → accepted sh ≡ true → (k : ℕ) → k < layers sh → sizing sh k ≡ layerSize sh k
-unfolding sizing
-size-inside sh ok k l = rw (ok, lt-ltb k (layers sh) l)

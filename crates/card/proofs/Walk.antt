@@ -5,19 +5,22 @@ use mathlib.Core.List.{List}
 use Prim.Native.Nat.{ℕ, _+_, _-_, _*_, _<_, _≤_}
 use native.Mathlib.Numerals.{add-one}
 use native.Mathlib.Omega.{arith}
+use borrow.Author.Tests.{lt-ltb}
 use lib.Arith.{digits-div, digits-mod}
 use lib.IntN.{ℤ, pos}
 use lib.ListN.{length, getD, set}
 use lib.Seq.{sets, length-sets}
 use Rattle.layers.specs.declared.Shape.{Shape}
 use Rattle.layers.specs.Lists.{at, tabulate, count}
-use Rattle.layers.specs.Sheet.{points, has, inLayer, layerSize, pointOf, placeIn}
+use Rattle.layers.specs.Sheet.{accepted, points, layers, has, inLayer, layerSize, pointOf, placeIn}
+use Rattle.layers.specs.Calls.{gridding}
+use Rattle.layers.specs.Loops.{gridOf}
 use Rattle.layers.proofs.Lists.{count-yes, count-add, count-empty, count-same}
 use Rattle.layers.proofs.Places.{point-place}
 use Rattle.layers.proofs.Sweep.{Local, Swept, swept-none, swept-more, swept-skip, swept-all}
 use Rattle.digits.specs.Digits.{value, bitsOf}
 use Rattle.card.specs.Words.{spreadOver}
-use Rattle.card.proofs.Stores.{sets-more, sets-none}
+use Rattle.card.proofs.Runs.{sets-more, sets-none}
 
 module _ (sh : Shape) (k : ℕ) where
   -- ---- the place that the walk has come to
@@ -41,7 +44,12 @@ module _ (sh : Shape) (k : ℕ) where
   unfolding placeIn layerSize
   place-all = refl
 
-  -- a row and a column of the grid
+  -- the grid that the code walks, where the layer is there
+  pub grid-here : accepted sh ≡ true → k < layers sh → gridding sh k ≡ gridOf (sh .levels) k
+  unfolding gridding
+  grid-here ok h = rw (ok, lt-ltb k (layers sh) h)
+
+  -- a row and a column of it
   pub in-at : (r c : ℕ) → c < sh .cols → has (sh .levels) k r c ≡ true → inLayer sh k (r * sh .cols + c) ≡ true
   unfolding inLayer
   in-at r c h m = rw (digits-div r h, digits-mod r h) m

@@ -8,7 +8,8 @@ use native.Mathlib.Decide.{decLt, ℕ-discrete}
 use native.Mathlib.Omega.{arith}
 use borrow.Author.Tests.{lt-ltb, le-ltb}
 use lib.Dec.{ltb, eqb}
-use lib.ListN.{length, getD, replicate, length-replicate, getD-replicate, List·getD-eq-default}
+use lib.ListN.{length, getD, replicate, length-replicate}
+use Rattle.digits.proofs.Firsts.{first-at, first-none}
 use Rattle.layers.specs.declared.Shape.{Shape}
 use Rattle.layers.specs.declared.Curve.the-variants.{Linear}
 use Rattle.layers.specs.Lists.{total}
@@ -23,9 +24,11 @@ use Rattle.card.specs.Reading.{bitOf, clean, hasOne, fine, loaded, badSl
 use Rattle.card.specs.Words.{blockStart, wordsMost, bitAt, asked, fineAt, slotFine, slotWords, withPlane, wordRead, Read, loadedAs}
 use Rattle.card.specs.declared.Loaded.the-variants.{Fine, Bad}
 use Rattle.card.proofs.ZeroBits.{bit-most}
+use Rattle.layers.proofs.Lists.{getD-zeros}
 use Rattle.card.proofs.PlaneSums.{at-most, with-length, with-in, with-before, with-after}
 use Rattle.card.proofs.SlotTests.{slot-none, slot-adds}
-use Rattle.card.proofs.SlotOrder.{slotNo, slot-in, slot-here, slot-only, slot-last, blocks-apart, blocks-room, in-block, first-at, first-none}
+use Rattle.card.proofs.Blocks.{blocks-apart, block-room, in-block}
+use Rattle.card.proofs.SlotOrder.{slotNo, slot-in, slot-here, slot-only, slot-last}
 
 -- ---- a header's shape and counts alone: all that the planes depend on
 abbrev pub bare : Shape → List ℕ → Header
@@ -157,12 +160,7 @@ module _ (h : Header) (long : ℕ) (bs : List ℕ) (plan : ℕ → ℕ) where
       }
     where
       zeros : (j : ℕ) → getD ws j 0 ≡ 0
-      zeros j =
-          ap (λ (l : List ℕ). getD l j 0) e
-          ∙ elim (decLt j n) [
-            | yes l ↦ getD-replicate n j 0 0 l
-            | no l ↦ List·getD-eq-default (replicate n 0) 0 (omega (arith, length-replicate {A = ℕ} n 0))
-          ]
+      zeros j = ap (λ (l : List ℕ). getD l j 0) e ∙ getD-zeros n j
 
   -- none is large
   pub partly-small : (t : ℕ) (ws : List ℕ) → Partly h long bs plan t ws → (j : ℕ) → getD ws j 0 < 2 ^ placesMost
@@ -258,7 +256,7 @@ module _ (h : Header) (long : ℕ) (bs : List ℕ) (plan : ℕ → ℕ) where
         own i b =
             let d : start + i - start ≡ i = omega arith in
             let s : slotNo K k p ≡ t = slot-here K some t l in
-            with-in ws start n p bit (start + i) (omega arith) (omega arith) (omega (arith, w .long-is, blocks-apart (h .shape) k K here, blocks-room (h .shape) ok))
+            with-in ws start n p bit (start + i) (omega arith) (omega arith) (omega (arith, w .long-is, block-room (h .shape) ok k here))
             ∙ ap₂ (λ (x y : ℕ). x + bit y * 2 ^ p) (w .word k i here b) d
             ∙ sym (total-bump (share h long bs plan t k i) (share h long bs plan (t + 1) k i) p placesMost (bit i * 2 ^ p) (omega arith)
             (share-yes h long bs plan (t + 1) k i p is (omega arith) ∙ ap (λ (x : ℕ). x * 2 ^ p) (bit-of h long bs plan k p i) ∙ omega (arith, share-coming h long bs plan t k i p (omega arith)))

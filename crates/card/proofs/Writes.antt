@@ -10,7 +10,7 @@ use lib.IntN.{ℤ, pos}
 use lib.ListN.{length, drop, List·getD-eq-default}
 use borrow.Author.Tests.{lt-ltb, le-ltb, le-leb, lt-leb, eq-eqb, ne-eqb}
 use Rattle.integers.proofs.Bools.{and-both, and-no-left, and-no-right, or-left, or-right}
-use Rattle.digits.specs.Digits.{holds, evens, odds}
+use Rattle.digits.specs.Digits.{holds}
 use Rattle.digits.proofs.Range.{holds-by, range-23}
 use Rattle.layers.specs.declared.Shape.{Shape}
 use Rattle.layers.specs.declared.Curve.{Curve}
@@ -22,6 +22,7 @@ use Rattle.layers.specs.Limits.{levelsMost, stepMost}
 use Rattle.layers.specs.Lists.{at}
 use Rattle.layers.specs.Sheet.{accepted, points}
 use Rattle.layers.specs.Layering.{layering, coefs}
+use Rattle.layers.specs.Loops.{Samples}
 use Rattle.layers.specs.Calls as C
 use Rattle.layers.proofs.Accepting.{accepted-by}
 use Rattle.layers.proofs.Answers.{samples-by, right, after-scan}
@@ -37,6 +38,7 @@ use Rattle.card.specs.Planes.{cardOf}
 use Rattle.card.specs.Writing.{outputLeast, badSizes, Writing, afterScan, badSettings, goodLengths, writing, told}
 use Rattle.card.specs.Writing as Wr
 use Rattle.card.proofs.BadSizes.{good-sizes}
+use Rattle.card.proofs.FlatPlanes.{zero-holds}
 
 abbrev made : Details → ℕ → List ℤ → List ℤ → List ℕ → Writing
 made d n q v o = record { refused = d; long = n; coefficients = q; values = v; output = o }
@@ -49,9 +51,11 @@ made-same d d′ n n′ q q′ v v′ o o′ a b c e f =
     ∙ ap (λ (x : List ℤ). made d′ n′ q′ x o) e
     ∙ ap (λ (x : List ℕ). made d′ n′ q′ v′ x) f
 
-zero-holds : holds placesMost (pos 0) ≡ true
-unfolding holds evens odds
-zero-holds = refl
+-- "23 digits .. enough for every accepted sheet"
+pub coefs-hold : {sh : Shape} {e : ℕ} {xs : List ℤ} → Samples sh e xs → (curve : Curve) (p : ℕ) → p < points sh → holds placesMost (at (coefs (layering sh curve) e xs) p) ≡ true
+coefs-hold s curve p h =
+    let reach = coefs-reach s curve p h in
+    holds-by placesMost _ (record { low = omega (arith, reach .0, range-23); high = omega (arith, reach .1, range-23) })
 
 module _ (xs : List ℤ) (sh : Shape) (curve : Curve) (e : ℕ) (qs vs : List ℤ) (out : List ℕ) where
   -- a refusal told
@@ -74,7 +78,7 @@ module _ (xs : List ℤ) (sh : Shape) (curve : Curve) (e : ℕ) (qs vs : List �
     wide-step h = or-right (ltb levelsMost (sh .levels)) (ltb stepMost e) h
 
     module _ (l : sh .levels ≤ levelsMost) (s : e ≤ stepMost) where
-      good-settings : badSettings xs sh curve e qs vs out ≡ false
+      pub good-settings : badSettings xs sh curve e qs vs out ≡ false
       good-settings = rw (le-ltb levelsMost (sh .levels) l, le-ltb stepMost e s)
 
       pub bad-lengths : goodLengths xs sh curve e qs vs out ≡ false → (w : Written) → w .refusal ≡ R.BadLengths → w .length ≡ 0 → told w qs vs out ≡ writing xs sh curve e qs vs out
@@ -110,15 +114,15 @@ module _ (xs : List ℤ) (sh : Shape) (curve : Curve) (e : ℕ) (qs vs : List �
 
       -- every length is right
       module _ (hx : length xs ≡ pts) (hq : length qs ≡ pts) (hv : length vs ≡ pts) (ho : outputLeast ≤ length out) where
-        good : goodLengths xs sh curve e qs vs out ≡ true
-        good =
+        pub good-lengths : goodLengths xs sh curve e qs vs out ≡ true
+        good-lengths =
             and-both front back
             (and-both (eqb (length xs) pts) (eqb (length qs) pts) (eq-eqb _ _ hx) (eq-eqb _ _ hq))
             (and-both (eqb (length vs) pts) (leb outputLeast (length out)) (eq-eqb _ _ hv) (le-leb _ _ ho))
 
         writes : writing xs sh curve e qs vs out ≡ afterScan xs sh curve e qs vs out (C.scanned (sh .cols) xs)
         unfolding writing
-        writes = rw (n, good-settings, good)
+        writes = rw (n, good-settings, good-lengths)
 
         abbrev Q : C.Quantizing
         Q = C.quantizing sh curve e xs qs vs
@@ -166,9 +170,7 @@ module _ (xs : List ℤ) (sh : Shape) (curve : Curve) (e : ℕ) (qs vs : List �
           go Clear k f g = rw g (
             long,
             λ p. elim (decLt p (points sh)) [
-              | yes h ↦
-                  let reach = coefs-reach (samples-by sh e xs is-settled hx k) curve p h in
-                  holds-by placesMost _ (record { low = omega (arith, reach .0, range-23); high = omega (arith, reach .1, range-23) })
+              | yes h ↦ coefs-hold (samples-by sh e xs is-settled hx k) curve p h
               | no h ↦
                   let past : length (coefs (layering sh curve) e xs) ≤ p = omega (arith, long) in
                   rw (List·getD-eq-default (coefs (layering sh curve) e xs) (pos 0) past) zero-holds

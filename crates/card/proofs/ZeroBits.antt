@@ -1,42 +1,18 @@
--- Bits that are 0: a test over the first numbers passes exactly where it passes at each of them; a number below a power of 2 whose bits from place r on are 0 is below 2 ^ r, taking the bits off from the top; so a run of bytes is 0 exactly where its bits are.
-use mathlib.Core.Path.{_≡_, refl, sym, ap, _∙_}
-use mathlib.Core.Bool.{Bool, true, false, _||_, false≢true}
+-- Bits that are 0: a number below a power of 2 whose bits from place r on are 0 is below 2 ^ r, taking the bits off from the top; so a run of bytes is 0 exactly where its bits are.
+use mathlib.Core.Path.{_≡_, sym, ap, _∙_}
+use mathlib.Core.Bool.{Bool, true, false, _||_}
 use mathlib.Core.List.{List}
 use Prim.Native.Nat.{ℕ, zero, suc, _+_, _*_, _-_, _/_, _%_, _^_, _<_, _≤_}
-use native.Mathlib.Nat.{le-refl, not-suc-le-zero, one-le-pow, pow-le-pow-right, div-eq-of-lt, div-lt-iff-lt-mul, zero-div, two-pow-succ, pow-zero}
+use native.Mathlib.Nat.{one-le-pow, pow-le-pow-right, div-eq-of-lt, div-lt-iff-lt-mul, zero-div, two-pow-succ, pow-zero}
 use native.Mathlib.Decide.{decLt}
 use native.Mathlib.Omega.{arith}
 use borrow.Author.Tests.{ltb-true, ltb-false, eqb-true, eq-eqb}
 use lib.Dec.{ltb, eqb}
 use lib.ListN.{getD}
-use Rattle.integers.proofs.Bools.{by, and-left, and-right, and-both, or-cases, or-left, or-right, not-yes}
+use Rattle.integers.proofs.Bools.{by, or-cases, or-left, or-right, not-yes}
 use Rattle.card.specs.Planes.{allBelow}
 use Rattle.card.specs.Words.{bitAt}
-
--- ---- tests over the first n numbers
-module _ (t : ℕ → Bool) where
-  pub all-yes : (n : ℕ) → ((i : ℕ) → i < n → t i ≡ true) → allBelow t n ≡ true
-  unfolding allBelow
-  all-yes zero h = refl
-  all-yes (suc n) h = and-both (allBelow t n) (t n) (all-yes n (λ i l. h i (omega arith))) (h n (le-refl (suc n)))
-
-  pub all-at : (n : ℕ) → allBelow t n ≡ true → (i : ℕ) → i < n → t i ≡ true
-  unfolding allBelow
-  all-at zero e i l = absurd (not-suc-le-zero l)
-  all-at (suc n) e i l =
-      elim (decLt i n) [
-        | yes m ↦ all-at n (and-left (allBelow t n) (t n) e) i m
-        | no m ↦ let q : i ≡ n = omega arith in rw q (and-right (allBelow t n) (t n) e)
-      ]
-
-  pub all-no : (n i : ℕ) → i < n → t i ≡ false → allBelow t n ≡ false
-  all-no n i l e = not-yes (allBelow t n) (λ a. false≢true (sym e ∙ all-at n a i l))
-
--- two tests of which each passes where the other does
-pub both-ways : (a b : Bool) → (a ≡ true → b ≡ true) → (b ≡ true → a ≡ true) → a ≡ b
-both-ways true b f g = sym (f refl)
-both-ways false true f g = g refl
-both-ways false false f g = refl
+use Rattle.card.proofs.All.{all-by, all-at, both-ways}
 
 -- ---- bits of one number
 pub bit-none : (j : ℕ) → 0 / 2 ^ j % 2 ≡ 0
@@ -93,8 +69,8 @@ module _ (bs : List ℕ) (from : ℕ) where
     pub run-bits : (m : ℕ) → allBelow (λ b. eqb (getD bs (from + b) 0) 0) m ≡ allBelow (λ i. eqb (bitAt bs from i) 0) (8 * m)
     run-bits m =
         both-ways _ _
-        (λ a. all-yes _ (8 * m) (λ i l. eq-eqb _ _ (bit-of-none i (eqb-true _ _ (all-at (λ b. eqb (getD bs (from + b) 0) 0) m a (i / 8) (omega arith))))))
-        (λ a. all-yes _ m (λ b l. eq-eqb _ _ (byte-none (getD bs (from + b) 0) (bytes (from + b))
+        (λ a. all-by _ (8 * m) (λ i l. eq-eqb _ _ (bit-of-none i (eqb-true _ _ (all-at (λ b. eqb (getD bs (from + b) 0) 0) m a (i / 8) (omega arith))))))
+        (λ a. all-by _ m (λ b l. eq-eqb _ _ (byte-none (getD bs (from + b) 0) (bytes (from + b))
         (λ j k. sym (bit-is b j k) ∙ eqb-true _ _ (all-at (λ i. eqb (bitAt bs from i) 0) (8 * m) a (8 * b + j) (omega arith))))))
 
     -- the spare bits of n points: those of byte n / 8 from place n % 8 on, and the bytes after it
@@ -127,10 +103,10 @@ module _ (bs : List ℕ) (from : ℕ) where
       pub spare-whole : n % 8 ≡ 0 → (part to : ℕ) → part ≡ from + n / 8 → to ≡ from + m → allBelow (Zero part) (to - part) ≡ allBelow Spare all
       spare-whole e part to p q =
           both-ways _ _
-          (λ a. all-yes Spare all (λ i l. spare-by i (λ g.
+          (λ a. all-by Spare all (λ i l. spare-by i (λ g.
           let h : part + (i / 8 - n / 8) ≡ from + i / 8 = omega arith in
           bit-of-none i (ap (λ (x : ℕ). getD bs x 0) (sym h) ∙ eqb-true _ _ (all-at (Zero part) (to - part) a (i / 8 - n / 8) (omega arith))))))
-          (λ a. all-yes (Zero part) (to - part) (λ b l.
+          (λ a. all-by (Zero part) (to - part) (λ b l.
           let h : part + b ≡ from + (n / 8 + b) = omega arith in
           eq-eqb _ _ (ap (λ (x : ℕ). getD bs x 0) h ∙ spare-byte a (n / 8 + b) (omega arith) (omega arith))))
 
@@ -139,7 +115,7 @@ module _ (bs : List ℕ) (from : ℕ) where
           → allBelow (Zero (part + 1)) (to - (part + 1)) ≡ allBelow Spare all
       spare-inside ne part to p q z =
           both-ways _ _
-          (λ a. all-yes Spare all (λ i l. spare-by i (λ g.
+          (λ a. all-by Spare all (λ i l. spare-by i (λ g.
           elim (decLt (n / 8) (i / 8)) [
             | yes k ↦
                 let h : part + 1 + (i / 8 - (n / 8 + 1)) ≡ from + i / 8 = omega arith in
@@ -148,7 +124,7 @@ module _ (bs : List ℕ) (from : ℕ) where
                 let h : i ≡ 8 * (n / 8) + i % 8 = omega arith in
                 ap (bitAt bs from) h ∙ bit-is (n / 8) (i % 8) (omega arith) ∙ none-shift (getD bs (from + n / 8) 0) (n % 8) (i % 8) (ap (λ (x : ℕ). getD bs x 0 / 2 ^ (n % 8)) (sym p) ∙ z) (omega arith)
           ])))
-          (λ a. all-yes (Zero (part + 1)) (to - (part + 1)) (λ b l.
+          (λ a. all-by (Zero (part + 1)) (to - (part + 1)) (λ b l.
           let h : part + 1 + b ≡ from + (n / 8 + 1 + b) = omega arith in
           eq-eqb _ _ (ap (λ (x : ℕ). getD bs x 0) h ∙ spare-byte a (n / 8 + 1 + b) (omega arith) (omega arith))))
 
@@ -165,8 +141,8 @@ module _ (bs : List ℕ) (from : ℕ) where
           run-bits m
           ∙ ap (allBelow (λ i. eqb (bitAt bs from i) 0)) (sym whole)
           ∙ both-ways _ _
-          (λ a. all-yes _ n (λ i l. all-at (λ i. eqb (bitAt bs from i) 0) all a i (omega arith)))
-          (λ a. all-yes _ all (λ i l.
+          (λ a. all-by _ n (λ i l. all-at (λ i. eqb (bitAt bs from i) 0) all a i (omega arith)))
+          (λ a. all-by _ all (λ i l.
           elim (decLt i n) [
             | yes k ↦ all-at (λ i. eqb (bitAt bs from i) 0) n a i k
             | no k ↦ eq-eqb _ _ (spare-at i (omega arith) (all-at Spare all s i l))

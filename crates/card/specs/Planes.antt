@@ -1,8 +1,8 @@
 -- The planes of a card (document 01, "Digits and planes" and "The card").
-use mathlib.Core.Bool.{Bool, true, false, cond, not, _&&_, _||_}
+use mathlib.Core.Bool.{Bool, true, cond, not, _&&_, _||_}
 use mathlib.Core.List.{List, [], _++_}
-use Prim.Native.Nat.{ℕ, zero, suc, _+_, _*_, _-_, _/_, _%_, _^_}
-use lib.Dec.{ltb, leb, eqb}
+use Prim.Native.Nat.{ℕ, zero, suc, _+_, _*_}
+use lib.Dec.{ltb}
 use lib.IntN.{ℤ}
 use Rattle.digits.specs.Digits.{digitAt, holds, firstFrom}
 use Rattle.layers.specs.declared.Shape.{Shape}

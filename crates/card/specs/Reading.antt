@@ -1,7 +1,7 @@
 -- Reading (document 01, "Reading and refining" and "When the box says no").
-use mathlib.Core.Bool.{Bool, true, false, cond, not, _&&_, _||_}
+use mathlib.Core.Bool.{Bool, cond, not, _&&_, _||_}
 use mathlib.Core.List.{List}
-use Prim.Native.Nat.{ℕ, zero, suc, _+_, _*_, _-_, _/_, _%_, _^_}
+use Prim.Native.Nat.{ℕ, suc, _+_, _*_, _-_, _/_, _%_, _^_}
 use lib.Dec.{ltb, leb, eqb}
 use lib.IntN.{ℤ}
 use lib.ListN.{length, getD, replicate}
@@ -18,7 +18,7 @@ use Rattle.header.specs.Refusals.{refusal, detailsOf}
 use Rattle.header.specs.Header.{placesMost, cellBytes, cellPoints, planesOf, planeCells}
 use Rattle.header.specs.Plan.{loads, firstOver}
 use Rattle.header.specs.Opening.{Opening, opening}
-use Rattle.header.specs.CardOrder.{cellsBefore, whole, wholePlan}
+use Rattle.header.specs.CardOrder.{cellsBefore, wholePlan}
 use Rattle.header.specs.Figure.{figureOf}
 use Rattle.card.specs.declared.Reached.{Reached}
 use Rattle.card.specs.Planes.{allBelow, ownLayer}
@@ -82,6 +82,10 @@ pub record Reading : Type 0 where
 abbrev pub noPlan : Plan
 noPlan = record { planes = replicate layersMost 0 }
 
+-- the planes that are whole in the bytes
+abbrev pub wholeOf : List ℕ → Header → ℕ → Plan
+wholeOf bs h long = wholePlan h (length bs - long)
+
 module _ (qs vs : List ℤ) where
   abbrev pub no : Details → Reading
   no d = record { refused = d; plan = noPlan; figure = 0; coefficients = qs; values = vs }
@@ -101,10 +105,6 @@ module _ (qs vs : List ℤ) where
 
   abbrev pub goodLengths : Header → Bool
   goodLengths h = eqb (length qs) (points (h .shape)) && eqb (length vs) (points (h .shape))
-
-  -- the planes that are whole in the bytes
-  abbrev pub wholeOf : List ℕ → Header → ℕ → Plan
-  wholeOf bs h long = wholePlan h (length bs - long)
 
   -- 9: "a layer asks more planes than are whole, or a place past the last layer is not 0 (detail: first such place)"
   abbrev pub readPlan : List ℕ → Header → ℕ → Plan → ℕ → Reading

@@ -1,15 +1,15 @@
 -- Refining (document 01, "Reading and refining" and "When the box says no").
-use mathlib.Core.Bool.{Bool, true, false, cond, not, _&&_, _||_}
-use mathlib.Core.List.{List, [], _∷_}
-use Prim.Native.Nat.{ℕ, suc, _+_, _*_, _-_}
-use lib.Dec.{ltb, leb, eqb}
+use mathlib.Core.Bool.{Bool, cond, _&&_}
+use mathlib.Core.List.{List}
+use Prim.Native.Nat.{ℕ, suc, _-_}
+use lib.Dec.{ltb}
 use lib.IntN.{ℤ, pos, _+ℤ_, _*ℤ_}
 use lib.ListN.{length}
 use Rattle.digits.specs.Digits.{holds, weight}
 use Rattle.layers.specs.declared.Shape.{Shape}
 use Rattle.layers.specs.Limits.{layersMost}
 use Rattle.layers.specs.Lists.{at, tabulate}
-use Rattle.layers.specs.Sheet.{points, layers, inLayer, placeIn}
+use Rattle.layers.specs.Sheet.{layers, inLayer, placeIn}
 use Rattle.layers.specs.Layering.{layering, rebuilt}
 use Rattle.header.specs.declared.Header.{Header}
 use Rattle.header.specs.declared.Plan.{Plan}
@@ -52,7 +52,7 @@ module _ (qs vs : List ℤ) where
   -- planes are at most the header's, so one test serves the last two; then "11, a coefficient outside the 23-digit range"
   abbrev pub refineLayer : List ℕ → Header → ℕ → Plan → ℕ → Reading
   refineLayer bs h long plan k =
-      cond (ltb k (layers (h .shape)) && ltb (loads plan k) (loads (R.wholeOf qs vs bs h long) k))
+      cond (ltb k (layers (h .shape)) && ltb (loads plan k) (loads (R.wholeOf bs h long) k))
       (cond (allHeld qs)
       (refinePlane h long bs plan k (planesOf h k - suc (loads plan k)))
       (R.no qs vs (refusal 11 0 0)))
@@ -65,7 +65,7 @@ module _ (qs vs : List ℤ) where
   unfoldable pub refineOpened : List ℕ → Header → ℕ → Plan → ℕ → Reading
   refineOpened bs h long plan k =
       cond (R.goodLengths qs vs h)
-      (refinePlan bs h long plan k (firstOver (loads (R.wholeOf qs vs bs h long)) (loads plan)))
+      (refinePlan bs h long plan k (firstOver (loads (R.wholeOf bs h long)) (loads plan)))
       (R.no qs vs (refusal 3 0 0))
 
   unfoldable pub refining : List ℕ → Plan → ℕ → Reading

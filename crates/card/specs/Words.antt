@@ -13,7 +13,7 @@ use Rattle.layers.specs.declared.Shape.{Shape}
 use Rattle.layers.specs.Lists.{at, tabulate, total}
 use Rattle.layers.specs.Sheet.{points, layers, layerSize, pointOf, placeIn, inLayer}
 use Rattle.header.specs.declared.Header.{Header}
-use Rattle.header.specs.Header.{placesMost, cellBytes, cellPoints, planesOf, planeCells}
+use Rattle.header.specs.Header.{placesMost, cellBytes, cellPoints, planeCells}
 use Rattle.card.specs.Planes.{packed, allBelow, ownLayer}
 use Rattle.card.specs.Reading.{bitOf, loaded, slots, slotLayer, firstBad}
 use Rattle.card.specs.declared.Loaded.{Loaded}

@@ -1,4 +1,4 @@
--- The fewest digits: a first number that passes a test passes it and none below it does, and natAbs q + 1 digits are enough; so fewest q is the least count that holds q.
+-- The fewest digits: natAbs q + 1 digits are enough, so the first count that holds q is the least that does.
 use mathlib.Core.Path.{_≡_, sym, ap, _∙_, subst}
 use mathlib.Core.Bool.{Bool, true, false, false≢true}
 use mathlib.Core.Logic.{_⊎_, ⊎-elim}
@@ -8,35 +8,9 @@ use native.Mathlib.Nat as NatL
 use lib.IntN.{ℤ, natAbs}
 use Rattle.digits.specs.Digits.{digitAt, holds, firstFrom, fewest}
 use Rattle.integers.proofs.Bools.{by, cond-yes, cond-no}
+use Rattle.digits.proofs.Firsts.{first-passes, first-least}
 use Rattle.digits.proofs.Range.{Holds, holds-yes, holds-by, holds-up, holds-enough}
 use Rattle.digits.proofs.Expansion.{digit-past, top-digit}
-
--- ---- the first that passes a test
-pub first-passes : (t : ℕ → Bool) (f n : ℕ) → t (n + f) ≡ true → t (firstFrom t f n) ≡ true
-unfolding firstFrom
-first-passes t zero n h = rw (NatL.add-zero n) at h
-first-passes t (suc f) n h =
-    by (t n)
-    (λ e. ap t (cond-yes (t n) n (firstFrom t f (suc n)) e) ∙ e)
-    (λ e. ap t (cond-no (t n) n (firstFrom t f (suc n)) e) ∙ first-passes t f (suc n) (ap t (steps n f) ∙ h))
-  where
-    steps : (n f : ℕ) → suc n + f ≡ n + suc f
-    steps n f = omega arith
-
-pub first-least : (t : ℕ → Bool) (f n m : ℕ) → n ≤ m → m < firstFrom t f n → t m ≡ false
-unfolding firstFrom
-first-least t zero n m l h = absurd (let e : ⊥ = omega arith in e)
-first-least t (suc f) n m l h =
-    by (t n)
-    (λ e. absurd (let x : ⊥ = omega (arith, cond-yes (t n) n (firstFrom t f (suc n)) e) in x))
-    (λ e. here e (first-least t f (suc n) m) (NatL.eq-or-lt-of-le l))
-  where
-    here : t n ≡ false → (suc n ≤ m → m < firstFrom t f (suc n) → t m ≡ false) → (n ≡ m) ⊎ (n < m) → t m ≡ false
-    here e rest w =
-        ⊎-elim
-        (λ s. ap t (sym s) ∙ e)
-        (λ s. rest s (omega (arith, cond-no (t n) n (firstFrom t f (suc n)) e)))
-        w
 
 -- ---- the fewest digits
 pub record Fewest (q : ℤ) (n : ℕ) : Type 0 where

@@ -5,5 +5,6 @@ pub mod Loss
 pub mod Expansion
 pub mod Offset
 pub mod Words
+pub mod Firsts
 pub mod Fewest
 pub mod Examples

@@ -53,10 +53,10 @@ module _ (s : Shown) (vs : List ℤ) where
 
 -- ---- what showing leaves in the slice of values is as long as the slice
 module _ (qs vs : List ℤ) (bs : List ℕ) where
-  opened-long : (h : Header) (long : ℕ) → length (readOpened qs vs bs h long (wholeOf qs vs bs h long) .values) ≡ length vs
+  opened-long : (h : Header) (long : ℕ) → length (readOpened qs vs bs h long (wholeOf bs h long) .values) ≡ length vs
   unfolding readOpened
   opened-long h long =
-      let plan = loads (wholeOf qs vs bs h long) in
+      let plan = loads (wholeOf bs h long) in
       by (goodLengths qs vs h)
       (λ g.
       by (ltb (firstOver plan plan) layersMost)

@@ -20,11 +20,11 @@ use Rattle.header.proofs.Opens.{Opens}
 use Rattle.header.proofs.Rightness.{Right}
 use Rattle.card.specs.Planes.{body, cardOf}
 use Rattle.card.specs.Reading.{Reading, coefsRead}
+use Rattle.card.proofs.ReadCall.{readAs, coefs-long}
 use Rattle.guarantee.specs.WrittenBack.{headerIn, readAll, Readable, Room, WritesBack, WrittenBack}
 use Rattle.guarantee.proofs.AllPlanes.{header-again, read-carries}
 use Rattle.guarantee.proofs.Bytes.{carried-body}
-use Rattle.guarantee.proofs.Coefficients.{coefs-long}
-use Rattle.guarantee.proofs.Taken.{opens-right, right-header, Passed, readAs, passed-reads, reading-passed}
+use Rattle.guarantee.proofs.Taken.{opens-right, right-header, Passed, passed-reads, reading-passed}
 use Rattle.guarantee.proofs.Written.{passes-written, samples-pass}
 
 module _ (bs : List ℕ) (qs vs : List ℤ) (card : Readable bs qs vs) where

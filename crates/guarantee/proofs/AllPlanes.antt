@@ -13,6 +13,7 @@ use lib.Seq.{ext-getD}
 use Rattle.integers.proofs.Bools.{and-left, and-right}
 use Rattle.digits.proofs.Range.{holds-up}
 use Rattle.digits.proofs.Expansion.{digit-past}
+use Rattle.digits.proofs.Firsts.{first-only}
 use Rattle.layers.specs.Limits.{layersMost}
 use Rattle.layers.specs.Lists.{at}
 use Rattle.layers.specs.Sheet.{layers, layerSize, pointOf}
@@ -24,10 +25,10 @@ use Rattle.header.proofs.Rightness.{Right, counts-few, counts-past}
 use Rattle.card.specs.Planes.{planeBit, allBelow, enough, planesFor, countsFor, headerFor}
 use Rattle.card.specs.Reading.{bitOf, clean, hasOne, fine, coefsRead}
 use Rattle.card.proofs.All.{all-by, all-at}
-use Rattle.card.proofs.Counting.{first-only}
+use Rattle.card.proofs.Cards.{counts-at}
+use Rattle.card.proofs.HeldLayers.{enough-yes, enough-by}
 use Rattle.guarantee.proofs.Carried.{Carries}
 use Rattle.guarantee.proofs.Coefficients.{full-holds, full-digit}
-use Rattle.guarantee.proofs.Enough.{enough-yes, enough-by, counts-at}
 use Rattle.guarantee.proofs.Taken.{Taken}
 
 module _ {h : Header} (r : Right h) {long : ℕ} {bs : List ℕ} (t : Taken h long bs (record { planes = h .planes })) where

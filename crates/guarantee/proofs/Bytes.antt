@@ -2,7 +2,7 @@
 use mathlib.Core.List.{List, []}
 use mathlib.Core.Path.{_≡_, sym, ap, _∙_}
 use Prim.Native.Nat.{ℕ, zero, suc, _+_, _-_, _*_, _/_, _%_, _^_, _<_}
-use native.Mathlib.Nat.{div-one, div-div-eq-div-mul, mul-comm, pow-suc, pow-zero}
+use native.Mathlib.Nat.{div-one, pow-suc, pow-zero}
 use native.Mathlib.Omega.{arith}
 use lib.IntN.{ℤ}
 use lib.ListN.{length, getD, drop, length-drop}
@@ -14,22 +14,19 @@ use Rattle.header.proofs.Rightness.{Right}
 use Rattle.card.specs.Planes.{body}
 use Rattle.card.specs.Reading.{bitOf}
 use Rattle.card.proofs.BodyOrder.{body-small, body-length, card-bit}
+use Rattle.card.proofs.Packing.{bits-above}
+use Rattle.card.proofs.LayerPlanes.{few-planes}
 use Rattle.guarantee.proofs.Carried.{Carries}
 use Rattle.guarantee.proofs.Cells.{PlaneAt, find-plane}
-use Rattle.guarantee.proofs.Loaded.{few-planes}
 
 -- ---- a number of n bits is its bits
--- those above the lowest
-above : (b i : ℕ) → b / 2 / 2 ^ i ≡ b / 2 ^ suc i
-above b i = div-div-eq-div-mul b 2 (2 ^ i) ∙ ap (λ (w : ℕ). b / w) (mul-comm 2 (2 ^ i) ∙ sym (pow-suc 2 i))
-
 bits-same : (n b c : ℕ) → b < 2 ^ n → c < 2 ^ n → ((i : ℕ) → i < n → b / 2 ^ i % 2 ≡ c / 2 ^ i % 2) → b ≡ c
 bits-same zero b c hb hc same = omega (arith, pow-zero 2)
 bits-same (suc n) b c hb hc same =
     let low : b % 2 ≡ c % 2 = ap (λ (x : ℕ). x % 2) (sym (div-one b)) ∙ same 0 (omega arith) ∙ ap (λ (x : ℕ). x % 2) (div-one c) in
     let high : b / 2 ≡ c / 2 =
     bits-same n (b / 2) (c / 2) (omega (arith, pow-suc 2 n)) (omega (arith, pow-suc 2 n))
-    (λ i h. ap (λ (x : ℕ). x % 2) (above b i) ∙ same (suc i) (omega arith) ∙ ap (λ (x : ℕ). x % 2) (sym (above c i))) in
+    (λ i h. ap (λ (x : ℕ). x % 2) (bits-above b i) ∙ same (suc i) (omega arith) ∙ ap (λ (x : ℕ). x % 2) (sym (bits-above c i))) in
     omega arith
 
 -- ---- as many bytes as the header names cells for

@@ -23,8 +23,8 @@ use Rattle.layers.proofs.SheetLaw.{sheet-proper}
 use Rattle.header.specs.declared.Header.{Header}
 use Rattle.header.specs.Header.{planesOf}
 use Rattle.card.specs.Reading.{bitOf, loaded, coefRead, coefsRead}
+use Rattle.card.proofs.LayerPlanes.{loaded-by, loaded-no}
 use Rattle.guarantee.proofs.Digits.{binary-tabulate, digit-back, missing-below, kept-above}
-use Rattle.guarantee.proofs.Loaded.{loaded-by, loaded-no}
 
 module _ (h : Header) (long : ℕ) (bs : List ℕ) where
   -- ---- the point at place i of layer k
@@ -89,10 +89,6 @@ module _ (h : Header) (long : ℕ) (bs : List ℕ) where
         coef-is (planesOf h) ∙ ap (λ (d : ℕ). value (truncate d bits)) none ∙ ap value (truncate-none bits)
 
   -- ---- the coefficients of all points
-  pub coefs-long : (plan : ℕ → ℕ) → length (coefsRead h long bs plan) ≡ points (h .shape)
-  unfolding coefsRead
-  coefs-long plan = length-tabulate _ _
-
   module _ (ok : accepted (h .shape) ≡ true) (k : ℕ) (hk : k < layers (h .shape)) where
     pub coef-at : (plan : ℕ → ℕ) (p : ℕ) → p < points (h .shape) → inLayer (h .shape) k p ≡ true
         → at (coefsRead h long bs plan) p ≡ coefRead h long bs plan k (placeIn (h .shape) k p)

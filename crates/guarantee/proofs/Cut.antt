@@ -21,9 +21,9 @@ use Rattle.header.proofs.Whole.{whole-fits, counted-whole}
 use Rattle.card.specs.Planes.{planeBit, headerFor, body, cardOf}
 use Rattle.card.specs.Reading.{bitOf}
 use Rattle.card.proofs.BodyOrder.{body-length, card-bit}
+use Rattle.card.proofs.LayerPlanes.{few-planes}
 use Rattle.guarantee.proofs.Carried.{Carries}
 use Rattle.guarantee.proofs.Fits.{Fits, end, fits-right, fits-full}
-use Rattle.guarantee.proofs.Loaded.{few-planes}
 use Rattle.guarantee.proofs.Taken.{AsksWhole}
 
 module _ {sh : Shape} {e : ℕ} {qs : List ℤ} (c : Fits sh e qs) (curve : Curve) (n : ℕ) (behind : end sh curve e qs ≤ n) where

@@ -22,8 +22,9 @@ use Rattle.header.proofs.Rightness.{layers-few}
 use Rattle.card.specs.Planes.{planeBit, allBelow, headerFor}
 use Rattle.card.specs.Reading.{bitOf, clean, hasOne, fine}
 use Rattle.card.proofs.All.{all-by, all-at}
+use Rattle.card.proofs.Cards.{counts-at}
 use Rattle.guarantee.proofs.Carried.{Carries, carried-digit}
-use Rattle.guarantee.proofs.Enough.{top-some, counts-at}
+use Rattle.guarantee.proofs.Enough.{top-some}
 use Rattle.guarantee.proofs.Fits.{Fits, fits-right}
 use Rattle.guarantee.proofs.Taken.{AllFine}
 

@@ -7,7 +7,6 @@ use native.Mathlib.Omega.{arith}
 use lib.IntN.{ℤ}
 use lib.ListN.{length}
 use Rattle.digits.specs.Digits.{holds}
-use Rattle.digits.proofs.Range.{holds-by, range-23}
 use Rattle.layers.specs.declared.Shape.{Shape}
 use Rattle.layers.specs.declared.Curve.{Curve}
 use Rattle.layers.specs.Limits.{layersMost, stepMost}
@@ -16,13 +15,13 @@ use Rattle.layers.specs.Sheet.{accepted, points}
 use Rattle.layers.specs.Layering.{layering, coefs}
 use Rattle.layers.specs.Loops.{Samples}
 use Rattle.layers.proofs.Lists.{length-tabulate}
-use Rattle.layers.proofs.Range.{coefs-reach}
 use Rattle.header.specs.Header.{placesMost, cellBytes, headerText}
 use Rattle.header.proofs.Rightness.{Right}
 use Rattle.card.specs.Planes.{planesFor, countsFor, headerFor, cardOf}
 use Rattle.card.proofs.Cards.{header-right, card-length}
 use Rattle.card.proofs.BodyOrder.{body-length}
-use Rattle.guarantee.proofs.Loaded.{few-planes}
+use Rattle.card.proofs.Writes.{coefs-hold}
+use Rattle.card.proofs.LayerPlanes.{few-planes}
 
 pub record Fits (sh : Shape) (e : ℕ) (qs : List ℤ) : Type 0 where
   pub shape : accepted sh ≡ true
@@ -50,7 +49,5 @@ samples-fit s curve =
     record {
       shape = s .shape;
       step = s .step;
-      digits = λ p h.
-          let reach = coefs-reach s curve p h in
-          holds-by placesMost _ (record { low = omega (arith, reach .0, range-23); high = omega (arith, reach .1, range-23) });
+      digits = coefs-hold s curve;
     }

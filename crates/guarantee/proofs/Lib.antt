@@ -8,7 +8,6 @@ mod Digits
 mod Enough
 mod Fine
 mod Fits
-mod Loaded
 mod Near
 mod OneMore
 mod Plans
@@ -17,7 +16,6 @@ mod RowsOpened
 mod Shows
 mod Step
 mod Taken
-mod Tests
 mod Written
 pub mod Again
 pub mod Holds

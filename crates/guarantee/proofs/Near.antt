@@ -25,13 +25,14 @@ use Rattle.header.specs.Figure.{figureOf}
 use Rattle.header.proofs.Rightness.{layers-few}
 use Rattle.card.specs.Planes.{headerFor}
 use Rattle.card.specs.Reading.{coefRead, coefsRead}
+use Rattle.card.proofs.Cards.{counts-at}
+use Rattle.card.proofs.ReadCall.{readAs}
 use Rattle.guarantee.specs.Guarantee.{Gives}
 use Rattle.guarantee.proofs.Coefficients.{bits, length-bits, bit-at, coef-is, coef-at}
 use Rattle.guarantee.proofs.Carried.{Carries, carried-digit}
 use Rattle.guarantee.proofs.Digits.{truncate-same}
-use Rattle.guarantee.proofs.Enough.{planes-hold, counts-at}
+use Rattle.guarantee.proofs.Enough.{planes-hold}
 use Rattle.guarantee.proofs.Fits.{Fits, fits-right, samples-fit}
-use Rattle.guarantee.proofs.Taken.{readAs}
 
 module _ {sh : Shape} {e : ℕ} {qs : List ℤ} (c : Fits sh e qs) (curve : Curve) {long : ℕ} {bs : List ℕ} {plan : Plan}
     (carries : Carries (headerFor sh curve e qs) long bs qs plan) where

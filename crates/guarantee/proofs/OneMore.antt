@@ -2,14 +2,13 @@
 use mathlib.Core.Bool.{true, cond, true≢false}
 use mathlib.Core.List.{List}
 use mathlib.Core.Path.{_≡_, sym, ap, _∙_}
-use Prim.Native.Nat.{ℕ, suc, _+_, _-_, _^_, _<_, _≤_}
+use Prim.Native.Nat.{ℕ, suc, _+_, _-_, _<_, _≤_}
 use native.Mathlib.Decide.{decLt, ℕ-discrete}
 use native.Mathlib.Numerals.{add-one}
 use native.Mathlib.Omega.{arith}
-use borrow.Author.Tests.{lt-ltb}
 use lib.IntN.{ℤ, pos, _+ℤ_, _*ℤ_}
-use lib.ListN.{length, set, length-set}
-use lib.Seq.{ext-getD, getD-set-same, getD-set-other}
+use lib.ListN.{length, length-set}
+use lib.Seq.{ext-getD, getD-set-same}
 use Rattle.integers.proofs.Bools.{by}
 use Rattle.digits.specs.Digits.{weight}
 use Rattle.layers.specs.declared.Curve.the-variants.{Linear}
@@ -24,12 +23,14 @@ use Rattle.header.specs.declared.Plan.{Plan}
 use Rattle.header.specs.Header.{planesOf}
 use Rattle.header.specs.Plan.{loads, withPlane}
 use Rattle.header.specs.CardOrder.{whole}
-use Rattle.header.proofs.Rightness.{Right, layers-few, counts-few}
+use Rattle.header.proofs.Rightness.{Right, right-by, layers-few}
 use Rattle.header.proofs.Whole.{whole-most}
 use Rattle.card.specs.Planes.{ownLayer}
 use Rattle.card.specs.Reading.{bitOf, fine, coefRead, coefsRead}
 use Rattle.card.specs.Refining.{coefsPlus, coefsWith}
-use Rattle.guarantee.proofs.Coefficients.{coef-next, coefs-long, coef-at}
+use Rattle.card.proofs.ReadCall.{coefs-long}
+use Rattle.card.proofs.RefineCall.{with-is, with-other}
+use Rattle.guarantee.proofs.Coefficients.{coef-next, coef-at}
 use Rattle.guarantee.proofs.Taken.{Taken}
 
 -- what is read of a layer hangs on the planes loaded of it alone
@@ -52,20 +53,14 @@ module _ {h : Header} (r : Right h) {long : ℕ} {bs : List ℕ} {plan : Plan} (
   named = omega (arith, whole-most h (length bs - long) k)
 
   -- ---- the plan
-  more-is : more ≡ record { planes = set (plan .planes) k (loads plan k + 1) }
-  unfolding withPlane
-  more-is =
-      let l : loads plan k + 1 < 2 ^ 64 = omega (arith, named, counts-few r k inside) in
-      rw (lt-ltb k layersMost inside, lt-ltb (loads plan k + 1) (2 ^ 64) l)
-
   pub more-places : length (more .planes) ≡ layersMost
-  more-places = ap (λ (p : Plan). length (p .planes)) more-is ∙ length-set (plan .planes) k (loads plan k + 1) ∙ places
+  more-places = ap (λ (p : Plan). length (p .planes)) (with-is h (right-by h r) plan k hk named) ∙ length-set (plan .planes) k (loads plan k + 1) ∙ places
 
   here : loads more k ≡ suc (loads plan k)
-  here = ap (λ (p : Plan). loads p k) more-is ∙ getD-set-same (plan .planes) k (loads plan k + 1) 0 (omega (arith, inside)) ∙ add-one (loads plan k)
+  here = ap (λ (p : Plan). loads p k) (with-is h (right-by h r) plan k hk named) ∙ getD-set-same (plan .planes) k (loads plan k + 1) 0 (omega (arith, inside)) ∙ add-one (loads plan k)
 
   elsewhere : (j : ℕ) → (j ≡ k → ⊥) → loads more j ≡ loads plan j
-  elsewhere j n = ap (λ (p : Plan). loads p j) more-is ∙ getD-set-other (plan .planes) k j (loads plan k + 1) 0 n
+  elsewhere = with-other h (right-by h r) plan k hk named
 
   module _ (ok : fine h long bs k next ≡ true) where
     own-fine : (p : ℕ) → p < planesOf h k → planesOf h k ≤ p + loads more k → fine h long bs k p ≡ true

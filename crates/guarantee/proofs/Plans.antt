@@ -8,6 +8,7 @@ use lib.Dec.{ltb}
 use lib.IntN.{ℤ}
 use lib.ListN.{length, take, length-take}
 use lib.Seq.{take-length}
+use Rattle.integers.proofs.Bools.{or-no-left}
 use Rattle.integers.proofs.Near.{near-le}
 use Rattle.layers.specs.declared.Shape.{Shape}
 use Rattle.layers.specs.declared.Curve.{Curve}
@@ -25,7 +26,6 @@ use Rattle.guarantee.proofs.Cut.{cut-opens}
 use Rattle.guarantee.proofs.Fits.{end, fits-right, fits-long, samples-fit}
 use Rattle.guarantee.proofs.Shows.{pulled-reads, pulled-gives}
 use Rattle.guarantee.proofs.Taken.{AsksWhole}
-use Rattle.guarantee.proofs.Tests.{or-no-left}
 
 -- the best plan of a header has the fewest cells
 pub best-fewest : {h : Header} {limit : ℕ} {ms : List ℕ} → Best h (withinLimit h limit) (betterByLimit h) ms → (ns : List ℕ) → PlanOf h ns → figureIn h ns ≤ limit → cellsIn h ms ≤ cellsIn h ns

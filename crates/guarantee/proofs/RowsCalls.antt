@@ -56,7 +56,7 @@ module _ (qs vs : List ℤ) where
   -- reading with all whole planes
   abbrev pub wholeRead : List ℕ → Reading
   wholeRead bs =
-      let plan = wholeOf qs vs bs benchHeader 64 in
+      let plan = wholeOf bs benchHeader 64 in
       readPlan qs vs bs benchHeader 64 plan (firstOver (loads plan) (loads plan))
 
   pub shown : Five qs vs → (bs : List ℕ) → opening bs ≡ opened → showing qs vs bs ≡ wholeRead bs

@@ -28,13 +28,14 @@ use Rattle.header.proofs.Rightness.{Right, layers-few}
 use Rattle.header.proofs.Whole.{whole-past}
 use Rattle.card.specs.Planes.{headerFor, cardOf}
 use Rattle.card.specs.Reading.{reading, showing}
+use Rattle.card.proofs.LayerPlanes.{whole-at}
+use Rattle.card.proofs.ReadCall.{readAs}
 use Rattle.guarantee.specs.Guarantee.{Slices, Gives}
 use Rattle.guarantee.proofs.Cut.{cut-opens, cut-carries}
 use Rattle.guarantee.proofs.Fine.{carried-fine}
 use Rattle.guarantee.proofs.Fits.{end, fits-right, samples-fit}
-use Rattle.guarantee.proofs.Loaded.{whole-at}
 use Rattle.guarantee.proofs.Near.{values-near}
-use Rattle.guarantee.proofs.Taken.{AsksWhole, readAs, passed-reads}
+use Rattle.guarantee.proofs.Taken.{AsksWhole, passed-reads}
 
 -- ---- the figure of all whole planes
 module _ {h : Header} (r : Right h) (n : ℕ) where

@@ -8,7 +8,7 @@ use borrow.Author.Tests.{ltb-true, ne-eqb}
 use lib.Dec.{ltb}
 use lib.IntN.{ℤ}
 use lib.ListN.{length}
-use Rattle.integers.proofs.Bools.{and-left, and-right}
+use Rattle.integers.proofs.Bools.{and-left, and-right, choice}
 use Rattle.layers.specs.Layering.{layering, rebuilt}
 use Rattle.layers.specs.Limits.{layersMost}
 use Rattle.layers.specs.Sheet.{layers}
@@ -19,16 +19,16 @@ use Rattle.header.specs.Refusals.{refusal}
 use Rattle.header.specs.Header.{planesOf}
 use Rattle.header.specs.Plan.{loads, firstOver, withPlane}
 use Rattle.header.specs.CardOrder.{whole, wholePlan}
-use Rattle.header.specs.Figure.{figureOf}
 use Rattle.header.proofs.Rightness.{Right, layers-few}
 use Rattle.card.specs.Reading.{Reading, fine, coefsRead, goodLengths}
 use Rattle.card.specs.Reading as R
-use Rattle.card.specs.Refining.{allHeld, coefsWith, refineOpened}
+use Rattle.card.specs.Refining.{allHeld, refineOpened}
+use Rattle.card.proofs.LayerPlanes.{whole-at}
+use Rattle.card.proofs.ReadCall.{readAs}
+use Rattle.card.proofs.RefineCall.{refinedAs}
 use Rattle.guarantee.specs.Refinements.{keep}
-use Rattle.guarantee.proofs.Loaded.{whole-at}
 use Rattle.guarantee.proofs.OneMore.{more-places, more-taken, coefs-more}
-use Rattle.guarantee.proofs.Taken.{Taken, readAs}
-use Rattle.guarantee.proofs.Tests.{choice}
+use Rattle.guarantee.proofs.Taken.{Taken}
 
 module _ (h : Header) (long : ℕ) (bs : List ℕ) where
   -- what reading with some plan of 13 places that it takes leaves
@@ -56,13 +56,7 @@ module _ (h : Header) (long : ℕ) (bs : List ℕ) where
     refused d n = rw (ne-eqb (d .number) 0 n) (record { plan = plan; places = places; taken = t; same = refl })
 
     -- one that is taken adds the digits that reading with one plane more reads
-    refined : k < layers (h .shape) → loads plan k < whole h (length bs - long) k → fine h long bs k next ≡ true → Kept (record {
-      refused = refusal 0 0 0;
-      plan = withPlane plan k;
-      figure = figureOf h (loads (withPlane plan k));
-      coefficients = coefsWith h long bs k next coefficients;
-      values = rebuild (coefsWith h long bs k next coefficients);
-    })
+    refined : k < layers (h .shape) → loads plan k < whole h (length bs - long) k → fine h long bs k next ≡ true → Kept (refinedAs h long bs plan k next coefficients)
     refined hk room ok =
         record {
           plan = withPlane plan k;

@@ -9,28 +9,25 @@ use borrow.Author.Tests.{ltb-false, le-ltb, eqb-true, eqb-false, not-false}
 use lib.Dec.{ltb, eqb}
 use lib.IntN.{ℤ}
 use lib.ListN.{length}
-use Rattle.integers.proofs.Bools.{by, and-left, and-right}
-use Rattle.digits.proofs.Fewest.{first-least}
-use Rattle.layers.specs.Layering.{layering, rebuilt}
+use Rattle.integers.proofs.Bools.{by}
+use Rattle.digits.proofs.Firsts.{first-least, first-none}
 use Rattle.layers.specs.Limits.{layersMost}
-use Rattle.layers.specs.Sheet.{points, layers}
+use Rattle.layers.specs.Sheet.{layers}
 use Rattle.header.specs.declared.Header.{Header}
 use Rattle.header.specs.declared.Plan.{Plan}
-use Rattle.header.specs.Refusals.{refusal}
 use Rattle.header.specs.Header.{planesOf}
 use Rattle.header.specs.Plan.{loads, firstOver}
 use Rattle.header.specs.Opening.{Opening, opening}
 use Rattle.header.specs.CardOrder.{whole, wholePlan}
-use Rattle.header.specs.Figure.{figureOf}
 use Rattle.header.proofs.HeaderLines.{accepting, lines-of, opening-of}
 use Rattle.header.proofs.Opens.{Opens, opened-right}
 use Rattle.header.proofs.Over.{before-over, none-over}
 use Rattle.header.proofs.Rightness.{Right, right-yes}
-use Rattle.card.specs.Reading.{Reading, fine, loaded, slotLayer, slotPlace, badSlot, slots, firstBad, coefsRead, goodLengths, readOpened, reading}
-use Rattle.card.proofs.ReadCall.{lengths-good}
-use Rattle.card.proofs.SlotOrder.{slotNo, slot-only, slot-last, first-none}
+use Rattle.card.specs.Reading.{fine, loaded, slotLayer, slotPlace, badSlot, slots, firstBad, goodLengths, readOpened, reading}
+use Rattle.card.proofs.ReadCall.{readAs, lengths-good, good-lengths}
+use Rattle.card.proofs.SlotOrder.{slotNo, slot-only, slot-last}
+use Rattle.card.proofs.LayerPlanes.{few-planes, whole-at, loaded-yes, loaded-by}
 use Rattle.guarantee.specs.Guarantee.{Slices}
-use Rattle.guarantee.proofs.Loaded.{few-planes, whole-at, loaded-yes, loaded-by}
 
 -- ---- what opening gives
 module _ (bs : List ℕ) {h : Header} {long : ℕ} (e : opening bs ≡ accepting h long) where
@@ -51,17 +48,6 @@ module _ (h : Header) (long : ℕ) (bs : List ℕ) where
   pub record Taken (plan : Plan) : Type 0 where
     pub asks : AsksWhole plan
     pub fine : AllFine plan
-
-  -- what it answers with one
-  abbrev pub readAs : Plan → Reading
-  readAs plan =
-      record {
-        refused = refusal 0 0 0;
-        plan = plan;
-        figure = figureOf h (loads plan);
-        coefficients = coefsRead h long bs (loads plan);
-        values = rebuilt (layering (h .shape) (h .curve)) (h .step) (coefsRead h long bs (loads plan));
-      }
 
   -- ---- its tests of a plan
   module _ (plan : Plan) where
@@ -138,11 +124,10 @@ module _ (qs vs : List ℤ) (bs : List ℕ) (plan : Plan) where
       (λ within. by (ltb (bad h long bs plan) (all h long bs plan))
       (λ y. absurd (let z : 8 ≡ 0 = rw (good, within, y) at zero in omega arith))
       (λ none.
-      let full-q = eqb (length qs) (points (h .shape)) in
-      let full-v = eqb (length vs) (points (h .shape)) in
+      let full = good-lengths qs vs h good in
       record {
         opens = opens;
-        slices = record { coefficients = eqb-true _ _ (and-left full-q full-v good); values = eqb-true _ _ (and-right full-q full-v good) };
+        slices = record { coefficients = full .0; values = full .1 };
         taken = record { asks = passes-asks h long bs plan within; fine = passes-fine h long bs plan (right-header bs opens) none };
       })))
       (λ n. absurd (let z : 3 ≡ 0 = rw n at zero in omega arith))

@@ -4,13 +4,13 @@ use mathlib.Core.List.{List, [], _∷_}
 use mathlib.Core.Path.{_≡_, refl, ap, _∙_}
 use Prim.Native.Nat.{ℕ, suc, _<_, _≤_}
 use native.Mathlib.Omega.{arith}
-use borrow.Author.Tests.{ltb-false, le-ltb, le-leb, eqb-true, eq-eqb}
+use borrow.Author.Tests.{ltb-false, le-ltb, eqb-true}
 use lib.Dec.{ltb, leb, eqb}
 use lib.IntN.{ℤ, pos, negℤ}
 use lib.ListN.{length}
 use lib.Signed.{leZ}
 use Rattle.integers.specs.Distance.{Within}
-use Rattle.integers.proofs.Bools.{by, and-left, and-both, is-true}
+use Rattle.integers.proofs.Bools.{by, and-left, and-both, or-no-left, or-no-right, is-true}
 use Rattle.integers.proofs.Diff.{#, lit, ⊟}
 use Rattle.integers.proofs.Near.{within-at}
 use Rattle.integers.proofs.Order.{le-by}
@@ -29,9 +29,8 @@ use Rattle.layers.proofs.Answers.{clear-within}
 use Rattle.card.specs.Planes.{cardOf}
 use Rattle.card.specs.Writing.{outputLeast, badSizes, badSettings, goodLengths, afterScan, done, writing}
 use Rattle.card.proofs.BadSizes.{left-over}
-use Rattle.card.proofs.Writes.{shape-accepted}
+use Rattle.card.proofs.Writes.{good-settings, good-lengths, shape-accepted}
 use Rattle.guarantee.specs.WrittenBack.{Room}
-use Rattle.guarantee.proofs.Tests.{or-no-left, or-no-right}
 
 -- ---- samples that are all in range are scanned clear
 within-in-range : (z : ℤ) → Within sampleMost z → inRange z ≡ true
@@ -100,14 +99,11 @@ module _ (g : List ℤ) (sh : Shape) (curve : Curve) (e : ℕ) (qs vs : List ℤ
   pub samples-pass : Samples sh e g → Room (points sh) qs vs out → Passes
   samples-pass x room =
       let s = accepted-yes sh (x .shape) in
+      let sizes : badSizes (sh .rows) (sh .cols) ≡ false =
+      left-over (sh .rows) (sh .cols) (λ z. omega (arith, s .tall)) (λ z. omega (arith, s .wide)) ∙ le-ltb pointsMost (points sh) (s .small) in
       record {
-        sizes = left-over (sh .rows) (sh .cols) (λ z. omega (arith, s .tall)) (λ z. omega (arith, s .wide)) ∙ le-ltb pointsMost (points sh) (s .small);
-        settings = rw (le-ltb levelsMost (sh .levels) (s .shallow), le-ltb stepMost e (x .step));
-        lengths = rw (
-          eq-eqb (length g) (points sh) (x .long),
-          eq-eqb (length qs) (points sh) (room .coefficients),
-          eq-eqb (length vs) (points sh) (room .values),
-          le-leb outputLeast (length out) (room .output),
-        );
+        sizes = sizes;
+        settings = good-settings g sh curve e qs vs out sizes (s .shallow) (x .step);
+        lengths = good-lengths g sh curve e qs vs out sizes (s .shallow) (x .step) (x .long) (room .coefficients) (room .values) (room .output);
         clear = scans-clear (sh .cols) g (λ p l. x .small p (omega (arith, x .long)));
       }

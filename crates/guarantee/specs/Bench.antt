@@ -14,7 +14,7 @@ use Rattle.header.specs.Refusals.{refusal}
 use Rattle.header.specs.Header.{ascii}
 use Rattle.header.specs.Opening.{opening}
 use Rattle.card.specs.Writing.{writing, outputLeast}
-use Rattle.card.specs.Reading.{Reading, showing}
+use Rattle.card.specs.Reading.{showing}
 use Rattle.card.specs.Reading as R
 use Rattle.planner.specs.Planning.{Planning, byLimit, byCells, cellsIn, figureIn}
 use Rattle.planner.specs.Planning as N

@@ -8,13 +8,12 @@ use lib.ListN.{length, getD, drop}
 use Rattle.integers.specs.Distance.{Within}
 use Rattle.layers.specs.Limits.{sampleMost}
 use Rattle.layers.specs.Lists.{at}
-use Rattle.header.specs.declared.Plan.{Plan}
 use Rattle.header.specs.declared.Header.{Header}
 use Rattle.header.specs.Refusals.{refusal}
 use Rattle.header.specs.Header.{cellBytes}
 use Rattle.header.specs.Opening.{opening}
 use Rattle.card.specs.Reading.{Reading, reading}
-use Rattle.card.specs.Writing.{Writing, writing, outputLeast}
+use Rattle.card.specs.Writing.{writing, outputLeast}
 
 -- the header of a card's bytes
 abbrev pub headerIn : List ℕ → Header

@@ -1,6 +1,5 @@
 -- The cells before a plane, from plane to plane: a sum over the layers, of which one step to the next layer or the next place changes one term or none.
 use mathlib.Core.Bool.{true}
-use mathlib.Core.List.{List}
 use mathlib.Core.Path.{_≡_, ap, ap₂, sym, _∙_}
 use Prim.Native.Nat.{ℕ, suc, _+_, _-_, _*_, _<_, _≤_}
 use native.Mathlib.Nat.{mul-le-mul-left, add-comm, add-zero, mul-zero, zero-mul, mul-suc, le-refl}
@@ -13,13 +12,13 @@ use Rattle.layers.specs.declared.Shape.{Shape}
 use Rattle.layers.specs.Limits.{layersMost}
 use Rattle.layers.specs.Lists.{total, tabulate}
 use Rattle.layers.specs.Sheet.{accepted, layers}
-use Rattle.layers.proofs.Accepting.{accepted-yes}
 use Rattle.integers.proofs.Bools.{by}
 use Rattle.layers.proofs.Lists.{getD-tabulate}
 use Rattle.header.specs.declared.Header.{Header}
 use Rattle.header.specs.Header.{placesMost, planesOf, planeCells, cellsAt, cellsOf}
 use Rattle.header.specs.CardOrder.{planesBefore, cellsBefore, cellsThrough}
 use Rattle.header.proofs.Rightness.{Right, layers-few}
+use Rattle.header.proofs.Cells.{cells-there, cells-past}
 use Rattle.header.proofs.Totals.{total-same, total-le, total-none, total-past, total-bump}
 
 -- ---- the planes of one layer that stand before
@@ -101,14 +100,8 @@ module _ (h : Header) where
       (λ j i. mul-le-mul-left (planeCells (h .shape) j) (let e : planesBefore h (suc k) p j ≤ planesBefore h (layers (h .shape)) 0 j = rw (before-passed h 0 (layers (h .shape)) j i) (omega arith) in e))))
 
 -- ---- the cells of one plane in a list, as the loops have them
-module _ (sh : Shape) (ok : accepted sh ≡ true) where
-  pub at-inside : (k : ℕ) → k < layers sh → cellsAt sh k ≡ planeCells sh k
-  unfolding cellsAt
-  at-inside k l = rw (ok, lt-ltb k (layers sh) l)
-
-  pub at-past : (k : ℕ) → layers sh ≤ k → cellsAt sh k ≡ 0
-  unfolding cellsAt
-  at-past k l = rw (ok, le-ltb k (layers sh) l)
+pub at-inside : (sh : Shape) → accepted sh ≡ true → (k : ℕ) → k < layers sh → cellsAt sh k ≡ planeCells sh k
+at-inside = cells-there
 
 module _ (h : Header) (r : Right h) (k p : ℕ) (hk : k < layers (h .shape)) where
   pub cells-through : cellsThrough (tabulate layersMost (cellsAt (h .shape))) (h .planes) k p ≡ cellsBefore h k p + planeCells (h .shape) k
@@ -118,20 +111,11 @@ module _ (h : Header) (r : Right h) (k p : ℕ) (hk : k < layers (h .shape)) whe
       let f : ℕ → ℕ = λ j. getD widths j 0 * planesBefore h k p j in
       let g : ℕ → ℕ = λ j. planeCells (h .shape) j * planesBefore h k p j in
       let few : layers (h .shape) ≤ layersMost = layers-few r in
-      let own : getD widths k 0 ≡ planeCells (h .shape) k = getD-tabulate layersMost (cellsAt (h .shape)) k 0 (omega arith) ∙ at-inside (h .shape) (r .shape) k hk in
+      let own : getD widths k 0 ≡ planeCells (h .shape) k = getD-tabulate layersMost (cellsAt (h .shape)) k 0 (omega arith) ∙ cells-there (h .shape) (r .shape) k hk in
       let past : total f layersMost ≡ total f (layers (h .shape)) =
       total-past f (layers (h .shape)) layersMost few
-      (λ j l m. rw (getD-tabulate layersMost (cellsAt (h .shape)) j 0 m, at-past (h .shape) (r .shape) j l) (zero-mul (planesBefore h k p j))) in
+      (λ j l m. rw (getD-tabulate layersMost (cellsAt (h .shape)) j 0 m, cells-past (h .shape) (r .shape) j l) (zero-mul (planesBefore h k p j))) in
       let same : total f (layers (h .shape)) ≡ total g (layers (h .shape)) =
       total-same f g (layers (h .shape))
-      (λ j l. rw (getD-tabulate layersMost (cellsAt (h .shape)) j 0 (omega arith), at-inside (h .shape) (r .shape) j l)) in
+      (λ j l. rw (getD-tabulate layersMost (cellsAt (h .shape)) j 0 (omega arith), cells-there (h .shape) (r .shape) j l)) in
       ap₂ (λ (a b : ℕ). a + b) own (past ∙ same) ∙ add-comm (planeCells (h .shape) k) (total g (layers (h .shape)))
-
--- the total that follows the header, over a list that has 0 past the last layer
-pub cells-listed : (sh : Shape) → accepted sh ≡ true → (planes : List ℕ) → total (λ k. getD (tabulate layersMost (cellsAt sh)) k 0 * getD planes k 0) layersMost ≡ cellsOf sh planes
-unfolding cellsOf
-cells-listed sh ok planes =
-    let few : layers sh ≤ layersMost = omega (arith, accepted-yes sh ok .shallow) in
-    let f : ℕ → ℕ = λ k. getD (tabulate layersMost (cellsAt sh)) k 0 * getD planes k 0 in
-    total-past f (layers sh) layersMost few (λ j l m. rw (getD-tabulate layersMost (cellsAt sh) j 0 m, at-past sh ok j l) (zero-mul (getD planes j 0)))
-    ∙ total-same f (λ k. planeCells sh k * getD planes k 0) (layers sh) (λ j l. rw (getD-tabulate layersMost (cellsAt sh) j 0 (omega arith), at-inside sh ok j l))

@@ -1,32 +1,35 @@
 -- The counts of a line of planes, one at a time: those read so far stand in front of what the rest of the text spells. A count that is read is at most its
 -- layer's limit, so at most 23.
-use mathlib.Core.Bool.{Bool, true, false, cond, true≢false, false≢true}
+use mathlib.Core.Bool.{true, false, true≢false, false≢true}
 use mathlib.Core.List.{List, [], _∷_, _++_, append-assoc}
 use mathlib.Core.Option.{Option, none, some}
 use mathlib.Core.Path.{_≡_, refl, sym, ap, ap₂, _∙_}
-use Prim.Native.Nat.{ℕ, zero, suc, _+_, _*_, _-_, _<_, _≤_}
+use Prim.Native.Nat.{ℕ, suc, _+_, _*_, _-_, _<_, _≤_}
 use native.Mathlib.Numerals.{add-one}
 use native.Mathlib.Omega.{arith}
 use lib.Dec.{ltb}
-use lib.ListN.{length, take, drop, getD, set, replicate, length-set, length-drop, length-take, length-append}
+use lib.ListN.{length, take, drop, getD, set, replicate, length-set, length-drop, length-take, length-append, List·getD-append}
 use lib.Seq.{take-suc-set, drop-set-lt, drop-drop, set-split, append-snoc}
-use borrow.Author.Tests.{lt-ltb, le-ltb}
+use borrow.Author.Tests.{ltb-true, ltb-false, lt-ltb, le-ltb}
 use Rattle.layers.specs.declared.Shape.{Shape}
 use Rattle.layers.specs.declared.Curve.{Curve}
 use Rattle.layers.specs.Limits.{layersMost}
 use Rattle.layers.specs.Sheet.{layers}
+use Rattle.layers.proofs.Lists.{getD-zeros}
+use Rattle.integers.proofs.Bools.{by}
 use Rattle.text.specs.declared.Number.{Number}
 use Rattle.text.specs.declared.Number.the-variants.{Value, Wrong}
 use Rattle.text.specs.Decimal.{parsed}
 use Rattle.text.specs.Line.{newline, before, starts}
 use Rattle.text.proofs.Lines.{tail}
-use Rattle.text.proofs.Reading.{spelt}
 use Rattle.header.specs.declared.Counts.{Counts}
-use Rattle.header.specs.declared.Header.{Header}
 use Rattle.header.specs.Refusals.{refusal}
-use Rattle.header.specs.Header.{placesMost, ascii, comma, cellsOf}
+use Rattle.header.specs.Header.{placesMost, ascii, comma}
 use Rattle.header.specs.Opening.{Opening, no, planesMost, consNumber, countsIn, padded, countsOf, counted, openingPlanes, openingCells}
-use Rattle.header.proofs.Cells.{planes-most-places}
+use Rattle.header.proofs.Rightness.{most-le}
+use Rattle.header.proofs.ListText.{written-counts}
+use Rattle.header.proofs.HeaderLines.{headed}
+use Rattle.header.proofs.Opens.{padded-past}
 
 -- ---- counts in front of others
 
@@ -148,53 +151,20 @@ module _ (sh : Shape) (text : List ℕ) (last : ℕ) (is-last : last ≡ 2 * sh 
 
 -- ---- how large they are
 
-abbrev Few : List ℕ → Type 0
-Few l = (i : ℕ) → getD l i 0 ≤ placesMost
-
-abbrev FewIn : Option (List ℕ) → Type 0
-FewIn none = Unit
-FewIn (some l) = Few l
-
-few-nil : Few []
-few-nil i = omega arith
-
-few-cons : (n : ℕ) (l : List ℕ) → n ≤ placesMost → Few l → Few (n ∷ l)
-few-cons n l h f zero = h
-few-cons n l h f (suc i) = f i
-
-few-append : (a b : List ℕ) → Few a → Few b → Few (a ++ b)
-few-append [] b f g i = g i
-few-append (x ∷ a) b f g zero = f zero
-few-append (x ∷ a) b f g (suc i) = few-append a b (λ j. f (suc j)) g i
-
-few-blank : (m : ℕ) → Few (replicate m 0)
-few-blank zero i = omega arith
-few-blank (suc m) zero = omega arith
-few-blank (suc m) (suc i) = few-blank m i
-
-few-number : (sh : Shape) (k : ℕ) (text : List ℕ) (o : Option (List ℕ)) → FewIn o → FewIn (consNumber (parsed 0 (planesMost sh k) text) o)
-few-number sh k text o f = by (parsed 0 (planesMost sh k) text) refl o f where
-  by : (p : Number) → parsed 0 (planesMost sh k) text ≡ p → (o : Option (List ℕ)) → FewIn o → FewIn (consNumber p o)
-  by Wrong e o f = tt
-  by (Value v) e none f = tt
-  by (Value v) e (some l) f = few-cons v l (omega (arith, spelt 0 (planesMost sh k) text v e .most, planes-most-places sh k)) f
-
-few-in : (sh : Shape) (f k : ℕ) (text : List ℕ) → FewIn (countsIn sh f k text)
-unfolding countsIn
-few-in sh zero k text = tt
-few-in sh (suc zero) k text = few-number sh k text (some []) few-nil
-few-in sh (suc (suc f)) k text = by (ltb (before comma text) (length text)) (few-in sh (suc f) (suc k) (drop (before comma text + 1) text)) where
-  by : (t : Bool) → FewIn (countsIn sh (suc f) (suc k) (drop (before comma text + 1) text))
-      → FewIn (cond t (consNumber (parsed 0 (planesMost sh k) (take (before comma text) text)) (countsIn sh (suc f) (suc k) (drop (before comma text + 1) text))) none)
-  by true r = few-number sh k (take (before comma text) text) (countsIn sh (suc f) (suc k) (drop (before comma text + 1) text)) r
-  by false r = tt
-
-few-of : (o : Option (List ℕ)) → FewIn o → Few (countsOf o .planes)
-few-of none f = few-blank layersMost
-few-of (some l) f = few-append l (replicate (layersMost - length l) 0) f (few-blank (layersMost - length l))
-
 pub counts-few : (sh : Shape) (text : List ℕ) (i : ℕ) → getD (countsOf (countsIn sh (layers sh) 0 text) .planes) i 0 ≤ placesMost
-counts-few sh text = few-of (countsIn sh (layers sh) 0 text) (few-in sh (layers sh) 0 text)
+counts-few sh text i = each (countsIn sh (layers sh) 0 text) refl where
+  each : (o : Option (List ℕ)) → countsIn sh (layers sh) 0 text ≡ o → getD (countsOf o .planes) i 0 ≤ placesMost
+  each none e = omega (arith, getD-zeros layersMost i)
+  each (some ns) e =
+      let c = written-counts sh (layers sh) 0 text ns e in
+      by (ltb i (length ns))
+      (λ t. omega (
+        arith,
+        List·getD-append ns (replicate (layersMost - length ns) 0) 0 i (ltb-true i (length ns) t),
+        c .most i (omega (arith, c .long, ltb-true i (length ns) t)),
+        most-le sh (0 + i),
+      ))
+      (λ t. omega (arith, padded-past ns i (ltb-false i (length ns) t)))
 
 -- ---- the line
 
@@ -205,10 +175,6 @@ counted-wrong (some l) go e = absurd (true≢false e)
 counted-right : (o : Option (List ℕ)) (go : List ℕ → Opening) → countsOf o .right ≡ true → counted o go ≡ go (countsOf o .planes)
 counted-right none go e = absurd (false≢true e)
 counted-right (some l) go e = refl
-
--- what follows the line
-abbrev header : Shape → Curve → ℕ → List ℕ → Header
-header sh curve step planes = record { shape = sh; curve = curve; step = step; planes = planes; cells = cellsOf sh planes }
 
 module _ (bs : List ℕ) (sh : Shape) (curve : Curve) (step at e : ℕ) (is : e ≡ at + before newline (drop at bs)) where
   pub planes-short : length bs ≤ e → openingPlanes bs sh curve step at ≡ no (refusal 5 0 0)
@@ -230,7 +196,7 @@ module _ (bs : List ℕ) (sh : Shape) (curve : Curve) (step at e : ℕ) (is : e 
       abbrev read : Option (List ℕ)
       read = countsIn sh (layers sh) 0 (drop (length (ascii "planes=")) (take (e - at) (drop at bs)))
 
-      opened : openingPlanes bs sh curve step at ≡ counted read (λ planes. openingCells bs (header sh curve step planes) (at + (e - at + 1)))
+      opened : openingPlanes bs sh curve step at ≡ counted read (λ planes. openingCells bs (headed sh curve step planes) (at + (e - at + 1)))
       unfolding openingPlanes
       opened = simp (front, there, s)
 
@@ -243,8 +209,8 @@ module _ (bs : List ℕ) (sh : Shape) (curve : Curve) (step at e : ℕ) (is : e 
         pub planes-wrong : r .right ≡ false → openingPlanes bs sh curve step at ≡ no (refusal 6 6 0)
         planes-wrong w = opened ∙ counted-wrong read _ (ap (λ (c : Counts). c .right) these ∙ w)
 
-        pub planes-right : r .right ≡ true → openingPlanes bs sh curve step at ≡ openingCells bs (header sh curve step (r .planes)) (e + 1)
+        pub planes-right : r .right ≡ true → openingPlanes bs sh curve step at ≡ openingCells bs (headed sh curve step (r .planes)) (e + 1)
         planes-right w =
             opened
             ∙ counted-right read _ (ap (λ (c : Counts). c .right) these ∙ w)
-            ∙ ap₂ (λ (c : Counts) (n : ℕ). openingCells bs (header sh curve step (c .planes)) n) these (omega arith)
+            ∙ ap₂ (λ (c : Counts) (n : ℕ). openingCells bs (headed sh curve step (c .planes)) n) these (omega arith)

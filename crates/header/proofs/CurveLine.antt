@@ -12,6 +12,7 @@ use Rattle.layers.specs.declared.Curve.the-variants.{Linear, Cubic}
 use Rattle.integers.proofs.Bools.{and-left, and-right}
 use Rattle.text.specs.declared.Line.the-variants as L
 use Rattle.text.specs.Line.{newline, before, starts}
+use Rattle.text.proofs.Lines.{not-short, not-wrong}
 use Rattle.text.proofs.Search.{Free, starts-split}
 use Rattle.header.specs.Header.{asciiFrom, ascii, curveText}
 use Rattle.header.specs.Opening.{same, curveLine, curveOf}
@@ -43,7 +44,7 @@ read-curve l v n e =
   where
     by : (a b c : Bool) → ltb (before newline l) (length l) ≡ a → same (curveWords Linear) (take (before newline l) l) ≡ b → same (curveWords Cubic) (take (before newline l) l) ≡ c
         → cond a (cond b (L.Number 0 (before newline l + 1)) (cond c (L.Number 1 (before newline l + 1)) L.Wrong)) L.Short ≡ L.Number v n → Ends l (curveWords (curveOf v)) n
-    by false b c s p q e = absurd (let z : _≡_ {A = ℕ} 0 1 = cc in let y : ⊥ = omega arith in y)
+    by false b c s p q e = absurd (not-short e)
     by true true c s p q e =
         let is : 0 ≡ v = cc in
         let end : before newline l + 1 ≡ n = cc in
@@ -52,7 +53,7 @@ read-curve l v n e =
         let is : 1 ≡ v = cc in
         let end : before newline l + 1 ≡ n = cc in
         rw (← is, ← end) (ends-at l (curveWords Cubic) (ltb-true _ _ s) (same-is (curveWords Cubic) _ q))
-    by true false false s p q e = absurd (let z : _≡_ {A = ℕ} 0 1 = cc in let y : ⊥ = omega arith in y)
+    by true false false s p q e = absurd (not-wrong e)
 
 -- ---- written
 curve-free : (c : Curve) → Free newline (curveWords c)

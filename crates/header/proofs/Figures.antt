@@ -1,7 +1,7 @@
--- The figure of a plan: the step and what stands of the losses. A full plan loses nothing, and no plan loses more than one that loads nothing, which the limits bound.
+-- The figure of a plan: the step and what stands of the losses. A full plan loses nothing, and the limits bound what stands whatever a plan loads.
 use mathlib.Core.Path.{_≡_}
 use Prim.Native.Nat.{ℕ, _+_, _-_, _*_, _^_, _<_, _≤_}
-use native.Mathlib.Nat.{le-trans, mul-le-mul, mul-le-mul-right, zero-mul}
+use native.Mathlib.Nat.{le-trans, mul-le-mul, zero-mul}
 use native.Mathlib.Omega.{arith}
 use Rattle.integers.specs.Floor.{ceilDiv}
 use Rattle.layers.specs.Limits.{layersMost, stepMost}
@@ -9,12 +9,11 @@ use Rattle.layers.specs.Sheet.{layers}
 use Rattle.layers.specs.Prediction.{width}
 use Rattle.layers.specs.Carry.{carried, standing}
 use Rattle.layers.proofs.Range.{limit, limit-all}
-use Rattle.layers.proofs.Standing.{standing-mono}
 use Rattle.header.specs.declared.Header.{Header}
 use Rattle.header.specs.Header.{placesMost, planesOf}
 use Rattle.header.specs.Figure.{ownLoss, figureOf}
 use Rattle.header.proofs.Rightness.{Right, counts-few, layers-few}
-use Rattle.header.proofs.Limits.{lossMost, loss-rises, loss-none, loss-most, standing-none, standing-limit}
+use Rattle.header.proofs.Limits.{lossMost, loss-none, loss-most, standing-none, standing-limit}
 
 module _ (h : Header) where
   -- "The figure is e plus the result"
@@ -34,16 +33,6 @@ module _ (h : Header) where
 
   pub figure-all : figureOf h (planesOf h) ≡ h .step
   figure-all = figure-full (planesOf h) (λ k _. omega arith)
-
-  -- a plan that loads no less has no larger figure
-  pub figure-falls : (plan more : ℕ → ℕ) → ((k : ℕ) → plan k ≤ more k) → figureOf h more ≤ figureOf h plan
-  unfolding figureOf
-  figure-falls plan more le =
-      omega (
-        arith,
-        standing-mono (h .shape) (h .curve) (ownLoss h more) (ownLoss h plan)
-            (λ k. mul-le-mul-right (width (h .step)) (loss-rises (planesOf h k - more k) (planesOf h k - plan k) (omega (arith, le k)))) (layers (h .shape)),
-      )
 
 -- ---- the limits of a right header
 abbrev pub ownMost : ℕ
@@ -70,7 +59,3 @@ module _ {h : Header} (r : Right h) (plan : ℕ → ℕ) where
     where
       top : limit lossMost layersMost ≤ standingMost
       top = unfold limit carried ceilDiv in (omega arith)
-
-  pub figure-most : figureOf h plan ≤ 2 ^ 60
-  unfolding figureOf
-  figure-most = omega (arith, r .step, standing-most (layers (h .shape)) (omega arith))

@@ -1,10 +1,9 @@
 -- An array filled place by place: the places passed hold what they should, and at the end all do.
 use mathlib.Core.List.{List}
-use mathlib.Core.Path.{_≡_, ap, sym, subst, _∙_}
+use mathlib.Core.Path.{_≡_, sym, _∙_}
 use Prim.Native.Nat.{ℕ, _+_, _<_, _≤_}
-use native.Mathlib.Decide.{ℕ-discrete}
-use native.Mathlib.Nat.{not-suc-le-zero}
 use native.Mathlib.Omega.{arith}
+use borrow.Author.Count.{below-none, below-more}
 use lib.ListN.{length, getD, set, length-set}
 use lib.Seq.{ext-getD, getD-set-same, getD-set-other}
 use Rattle.layers.specs.Lists.{tabulate}
@@ -16,17 +15,15 @@ pub record Filled (f : ℕ → ℕ) (n k : ℕ) (l : List ℕ) : Type 0 where
 
 module _ (f : ℕ → ℕ) (n : ℕ) where
   pub filled-none : (l : List ℕ) → length l ≡ n → Filled f n 0 l
-  filled-none l e = record { long = e; done = λ i h. absurd (not-suc-le-zero h) }
+  filled-none l e = record { long = e; done = below-none _ }
 
   pub filled-more : {l : List ℕ} {k : ℕ} (v : ℕ) → v ≡ f k → k < n → Filled f n k l → Filled f n (k + 1) (set l k v)
   filled-more {l} {k} v e h w =
       record {
         long = length-set l k v ∙ w .long;
-        done = λ i m.
-            elim (ℕ-discrete i k) [
-              | yes q ↦ subst (λ (x : ℕ). getD (set l k v) x 0 ≡ f x) (sym q) (getD-set-same l k v 0 (omega (arith, w .long)) ∙ e)
-              | no q ↦ getD-set-other l k i v 0 q ∙ w .done i (omega arith)
-            ];
+        done = below-more (λ (i : ℕ). getD (set l k v) i 0 ≡ f i) k
+            (λ i m. getD-set-other l k i v 0 (omega arith) ∙ w .done i m)
+            (getD-set-same l k v 0 (omega (arith, w .long)) ∙ e);
       }
 
   pub filled-all : {l : List ℕ} {k : ℕ} → n ≤ k → Filled f n k l → l ≡ tabulate n f

@@ -10,13 +10,14 @@ use lib.ListN.{length, drop}
 use Rattle.layers.specs.declared.Shape.{Shape}
 use Rattle.layers.specs.declared.Curve.{Curve}
 use Rattle.layers.specs.Limits.{pointsMost, levelsMost, stepMost}
+use Rattle.integers.proofs.Bools.{choice}
 use Rattle.text.specs.declared.Line.the-variants as L
 use Rattle.text.specs.Line.{newline, before, lineAt}
 use Rattle.header.specs.declared.Header.{Header}
 use Rattle.header.specs.Refusals.{refusal}
 use Rattle.header.specs.Header.{cellBytes, ascii, cellsOf}
 use Rattle.header.specs.Opening.{Opening, no, curveLine, curveOf, padded, openingCells, openingPlanes, openingStep, openingCurve, openingLevels, openingCols, opening}
-use Rattle.header.proofs.Turns.{PlanesLine, turn, turn-planes, turn-last}
+use Rattle.header.proofs.Turns.{PlanesLine, turn, turn-planes}
 
 pub record HeaderLines (bs : List ℕ) (h : Header) (long : ℕ) : Type 0 where
   -- the bytes that each line has
@@ -82,7 +83,7 @@ module _ (bs : List ℕ) where
       let n₆ = before newline (drop at bs) + 1 in
       let h = headed sh (curveOf v) step (padded counts) in
       turn Lined 7 (lineAt (ascii "cells=") (h .cells) (h .cells) (drop (at + n₆) bs)) (λ _ n. closing bs h (at + n₆ + n)) (refused 4 0 0) (refused 5 7 0) (λ total n₇ e₇.
-      turn-last Lined (ltb (at + n₆ + n₇ + cellBytes * h .cells) (length bs)) (no (refusal 7 0 0)) (accepting h (at + n₆ + n₇)) (λ _. refused 6 0 0) (λ e _.
+      choice Lined (ltb (at + n₆ + n₇ + cellBytes * h .cells) (length bs)) (λ _. refused 6 0 0) (λ e _.
       record {
         n₁ = n₁;
         n₂ = n₂;

@@ -23,6 +23,5 @@ pub mod Taking
 pub mod Counting
 pub mod Stores
 pub mod Fills
-pub mod Firsts
 pub mod Through
 pub mod FigureCall

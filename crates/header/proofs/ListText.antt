@@ -1,6 +1,7 @@
--- The counts' text, count by count: it is split at its first comma, which the characters of a number are free of. So the counts are read exactly where they are written.
+-- The counts' text, count by count: it grows by a comma and a number, and is split at its first comma, which the characters of a number are free of. So the counts are
+-- read exactly where they are written.
 use mathlib.Core.Bool.{Bool, true, false, cond}
-use mathlib.Core.List.{List, [], _∷_, _++_}
+use mathlib.Core.List.{List, [], _∷_, _++_, append-assoc}
 use mathlib.Core.Option.{Option, none, some}
 use mathlib.Core.Path.{_≡_, refl, ap, sym, _∙_}
 use Prim.Native.Nat.{ℕ, zero, suc, _+_, _*_, _<_, _≤_}
@@ -8,9 +9,10 @@ use native.Mathlib.Numerals.{add-one}
 use native.Mathlib.Omega.{arith}
 use borrow.Author.Tests.{lt-ltb, ltb-true}
 use lib.Dec.{ltb}
-use lib.ListN.{length, take, drop, getD, length-append}
-use lib.Seq.{take-append-seam, drop-append-add, split-at}
+use lib.ListN.{length, take, drop, getD, length-append, length-take}
+use lib.Seq.{take-suc, take-append-seam, drop-append-add, split-at, append-snoc}
 use Rattle.layers.specs.declared.Shape.{Shape}
+use Rattle.layers.proofs.Rises.{rises}
 use Rattle.text.specs.declared.Number.{Number}
 use Rattle.text.specs.declared.Number.the-variants as N
 use Rattle.text.specs.Decimal.{digits, parsed}
@@ -24,6 +26,43 @@ pub list-cons : (n : ℕ) (ns : List ℕ) → 0 < length ns → listText (n ∷ 
 unfolding listText
 list-cons n [] h = absurd (let z : ⊥ = omega arith in z)
 list-cons n (m ∷ ns) h = refl
+
+-- ---- one number more at the end
+pub list-snoc : (ns : List ℕ) (m : ℕ) → 0 < length ns → listText (ns ++ m ∷ []) ≡ listText ns ++ comma ∷ digits m
+unfolding listText
+list-snoc [] m h = absurd (let z : ⊥ = omega arith in z)
+list-snoc (n ∷ []) m h = refl
+list-snoc (n ∷ k ∷ ns) m h = ap (λ (l : List ℕ). digits n ++ comma ∷ l) (list-snoc (k ∷ ns) m (omega arith)) ∙ sym (append-assoc (digits n) (comma ∷ listText (k ∷ ns)) (comma ∷ digits m))
+
+pub list-one : (ns : List ℕ) → 0 < length ns → listText (take 1 ns) ≡ digits (getD ns 0 0)
+unfolding listText
+list-one [] h = absurd (let z : ⊥ = omega arith in z)
+list-one (n ∷ ns) h = refl
+
+-- one number more
+pub list-more : (ns : List ℕ) (i : ℕ) → 0 < i → i < length ns → listText (take (i + 1) ns) ≡ listText (take i ns) ++ (comma ∷ []) ++ digits (getD ns i 0)
+list-more ns i p h =
+    ap listText (ap (λ (k : ℕ). take k ns) (add-one i) ∙ take-suc ns i 0 h)
+    ∙ list-snoc (take i ns) (getD ns i 0) (omega (arith, length-take i ns))
+    ∙ sym (append-snoc (listText (take i ns)) comma (digits (getD ns i 0)))
+
+pub list-longer : (ns : List ℕ) (i : ℕ) → 0 < i → i < length ns → length (listText (take (i + 1) ns)) ≡ length (listText (take i ns)) + 1 + length (digits (getD ns i 0))
+list-longer ns i p h = ap length (list-more ns i p h) ∙ simp length-append
+
+-- and no shorter where there are more of them
+list-next : (ns : List ℕ) (j : ℕ) → length (listText (take j ns)) ≤ length (listText (take (suc j) ns))
+unfolding listText
+list-next [] zero = omega arith
+list-next [] (suc j) = omega arith
+list-next (n ∷ ns) zero = omega arith
+list-next (n ∷ []) (suc zero) = omega arith
+list-next (n ∷ []) (suc (suc j)) = omega arith
+list-next (n ∷ m ∷ ns) (suc zero) = omega (arith, length-append (digits n) (comma ∷ digits m))
+list-next (n ∷ m ∷ ns) (suc (suc j)) =
+    omega (arith, length-append (digits n) (comma ∷ listText (m ∷ take j ns)), length-append (digits n) (comma ∷ listText (m ∷ take (suc j) ns)), list-next (m ∷ ns) (suc j))
+
+pub list-rises : (ns : List ℕ) (i j : ℕ) → i ≤ j → length (listText (take i ns)) ≤ length (listText (take j ns))
+list-rises ns = rises (λ i. length (listText (take i ns))) (list-next ns)
 
 -- ---- it has no byte 10
 comma-free : (l : List ℕ) → Free newline l → Free newline (comma ∷ l)

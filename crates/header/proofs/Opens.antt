@@ -3,16 +3,16 @@ use mathlib.Core.Bool.{true}
 use mathlib.Core.List.{List, _++_}
 use mathlib.Core.Path.{_≡_, refl, ap, _∙_}
 use Prim.Native.Nat.{ℕ, _+_, _-_, _*_, _/_, _<_, _≤_, min}
-use native.Mathlib.Nat.{le-div-iff-mul-le, mul-comm}
 use native.Mathlib.Omega.{arith}
 use borrow.Author.Tests.{ltb-true, ltb-false}
 use lib.Dec.{ltb}
-use lib.ListN.{length, take, drop, getD, replicate, length-append, length-drop, length-replicate, getD-replicate, List·getD-append}
+use lib.ListN.{length, take, drop, getD, replicate, length-append, length-drop, length-replicate, List·getD-append}
 use lib.Seq.{take-at, getD-append-add}
 use Rattle.layers.specs.declared.Shape.{Shape}
 use Rattle.layers.specs.Limits.{pointsMost, levelsMost, layersMost, stepMost}
 use Rattle.layers.specs.Sheet.{layers}
 use Rattle.layers.proofs.Accepting.{Sheet, accepted-by}
+use Rattle.layers.proofs.Lists.{getD-zeros}
 use Rattle.integers.proofs.Bools.{by}
 use Rattle.text.specs.Line.{newline, before, lineText}
 use Rattle.text.proofs.Lines.{Written, written}
@@ -24,6 +24,7 @@ use Rattle.header.proofs.Rightness.{Right, right-by}
 use Rattle.header.proofs.ListText.{Counted, written-counts}
 use Rattle.header.proofs.Ends.{Ends, ends-at, ends-number, Front, front-first, front-next}
 use Rattle.header.proofs.CurveLine.{read-curve}
+use Rattle.header.proofs.Taking.{product-most}
 use Rattle.header.proofs.Turns.{PlanesLine}
 use Rattle.header.proofs.HeaderLines.{HeaderLines, Accepts, lines-of}
 
@@ -45,10 +46,10 @@ module _ (counts : List ℕ) (few : length counts ≤ layersMost) where
   pub padded-in : (k : ℕ) → k < length counts → getD (padded counts) k 0 ≡ getD counts k 0
   padded-in k l = List·getD-append counts (replicate (layersMost - length counts) 0) 0 k l
 
-  pub padded-past : (k : ℕ) → length counts ≤ k → k < layersMost → getD (padded counts) k 0 ≡ 0
-  padded-past k p l =
-      let e : length counts + (k - length counts) ≡ k = omega arith in
-      (rw e at (getD-append-add counts (replicate (layersMost - length counts) 0) (k - length counts) 0)) ∙ getD-replicate (layersMost - length counts) (k - length counts) 0 0 (omega arith)
+pub padded-past : (counts : List ℕ) (k : ℕ) → length counts ≤ k → getD (padded counts) k 0 ≡ 0
+padded-past counts k p =
+    let e : length counts + (k - length counts) ≡ k = omega arith in
+    (rw e at (getD-append-add counts (replicate (layersMost - length counts) 0) (k - length counts) 0)) ∙ getD-zeros (layersMost - length counts) (k - length counts)
 
 -- ---- line 6
 read-planes : (sh : Shape) (l counts : List ℕ) → PlanesLine sh l counts → Ends l (ascii "planes=" ++ listText counts) (before newline l + 1)
@@ -63,8 +64,7 @@ module _ (bs : List ℕ) (h : Header) (long : ℕ) (s : HeaderLines bs h long) w
       let r : Written (ascii "rows=") 1 pointsMost bs (h .shape .rows) (s .n₁) = written (ascii "rows=") 1 pointsMost _ _ _ (s .rows-line) in
       let c : Written (ascii "cols=") 1 (pointsMost / h .shape .rows) (drop (s .n₁) bs) (h .shape .cols) (s .n₂) = written (ascii "cols=") 1 (pointsMost / h .shape .rows) _ _ _ (s .cols-line) in
       let l : Written (ascii "levels=") 0 levelsMost (drop (s .n₁ + s .n₂) bs) (h .shape .levels) (s .n₃) = written (ascii "levels=") 0 levelsMost _ _ _ (s .levels-line) in
-      let few : h .shape .cols * h .shape .rows ≤ pointsMost = le-div-iff-mul-le (r .least) .0 (c .most) in
-      record { tall = r .least; wide = c .least; small = omega (arith, mul-comm (h .shape .cols) (h .shape .rows)); shallow = l .most }
+      record { tall = r .least; wide = c .least; small = product-most (h .shape .rows) (h .shape .cols) pointsMost (c .most); shallow = l .most }
 
   abbrev line : List ℕ
   line = drop (s .n₁ + s .n₂ + s .n₃ + s .n₄ + s .n₅) bs
@@ -92,7 +92,7 @@ module _ (bs : List ℕ) (h : Header) (long : ℕ) (s : HeaderLines bs h long) w
           let inside : k < length (s .counts) = ltb-true _ _ t in
           let z : 0 + k ≡ k = omega arith in
           rw (padded-in (s .counts) few k inside) (rw z at (counted .most k (omega (arith, counted .long)))))
-          (λ t. rw (padded-past (s .counts) few k (ltb-false k (length (s .counts)) t) l) (omega arith)))
+          (λ t. rw (padded-past (s .counts) k (ltb-false k (length (s .counts)) t)) (omega arith)))
 
   counts-listed : take (listed (h .shape .levels)) (h .planes) ≡ s .counts
   unfolding listed

@@ -4,7 +4,7 @@ use mathlib.Core.List.{List, _++_, append-assoc}
 use mathlib.Core.Option.{some}
 use mathlib.Core.Path.{_≡_, refl, ap, sym, _∙_}
 use Prim.Native.Nat.{ℕ, _+_, _-_, _*_, _/_, _<_, _≤_}
-use native.Mathlib.Nat.{le-div-iff-mul-le, mul-comm, mul-le-mul-left}
+use native.Mathlib.Nat.{le-div-iff-mul-le, mul-comm}
 use native.Mathlib.Omega.{arith}
 use borrow.Author.Tests.{ltb-true}
 use lib.ListN.{length, take, drop, getD, replicate, length-append, length-take, length-drop, length-replicate, take-append-drop, getD-replicate}
@@ -12,12 +12,13 @@ use lib.Seq.{getD-take, getD-drop, ext-getD, drop-append-seam}
 use Rattle.layers.specs.Limits.{pointsMost, levelsMost, layersMost, stepMost}
 use Rattle.layers.specs.Sheet.{layers}
 use Rattle.layers.proofs.Accepting.{Sheet, accepted-yes}
+use Rattle.layers.proofs.Fits.{rows-small}
 use Rattle.text.specs.Line.{newline, before, lineAt, lineText}
 use Rattle.text.proofs.Lines.{read-written}
 use Rattle.text.proofs.Search.{Free, free-append, starts-append}
 use Rattle.header.specs.declared.Header.{Header}
 use Rattle.header.specs.Header.{asciiFrom, ascii, cellBytes, listText, listed, headerText}
-use Rattle.header.specs.Opening.{Opening, padded, countsIn, right, opening}
+use Rattle.header.specs.Opening.{padded, countsIn, right, opening}
 use Rattle.header.proofs.Rightness.{Right, right-yes, layers-few, counts-past}
 use Rattle.header.proofs.ListText.{list-free, read-counts}
 use Rattle.header.proofs.Ends.{ended, seam-end, seam-inside, seam-front, seam-length, rest-next}
@@ -107,7 +108,6 @@ module _ (h : Header) (r : Right h) (full : length (h .planes) ≡ layersMost) w
         let b₆ : drop (n₁ + n₂ + n₃ + n₄ + n₅) bs ≡ t₆ ++ (t₇ ++ body) = rest-next bs t₅ _ (n₁ + n₂ + n₃ + n₄) n₅ b₅ refl in
         let b₇ : drop (n₁ + n₂ + n₃ + n₄ + n₅ + n₆) bs ≡ t₇ ++ body = rest-next bs t₆ _ (n₁ + n₂ + n₃ + n₄ + n₅) n₆ b₆ refl in
         let long : length (headerText h) ≡ n₁ + n₂ + n₃ + n₄ + n₅ + n₆ + n₇ = ap length text ∙ simp length-append in
-        let tall : sh .rows ≤ pointsMost = omega (arith, sizes .small, mul-le-mul-left (sh .rows) (sizes .wide)) in
         let wide : sh .cols ≤ pointsMost / sh .rows = le-div-iff-mul-le (sizes .tall) .1 (omega (arith, mul-comm (sh .cols) (sh .rows), sizes .small)) in
         record {
           n₁ = n₁;
@@ -117,7 +117,7 @@ module _ (h : Header) (r : Right h) (full : length (h .planes) ≡ layersMost) w
           n₅ = n₅;
           n₆ = n₆;
           n₇ = n₇;
-          rows-line = ap (lineAt (ascii "rows=") 1 pointsMost) b₁ ∙ read-written (ascii "rows=") 1 pointsMost (sh .rows) _ (unfold asciiFrom before in refl) (sizes .tall) tall;
+          rows-line = ap (lineAt (ascii "rows=") 1 pointsMost) b₁ ∙ read-written (ascii "rows=") 1 pointsMost (sh .rows) _ (unfold asciiFrom before in refl) (sizes .tall) (rows-small sizes);
           cols-line = ap (lineAt (ascii "cols=") 1 (pointsMost / sh .rows)) b₂ ∙ read-written (ascii "cols=") 1 (pointsMost / sh .rows) (sh .cols) _ (unfold asciiFrom before in refl) (sizes .wide) wide;
           levels-line = ap (lineAt (ascii "levels=") 0 levelsMost) b₃ ∙ read-written (ascii "levels=") 0 levelsMost (sh .levels) _ (unfold asciiFrom before in refl) (omega arith) (sizes .shallow);
           curve = curveCode (h .curve);
@@ -139,8 +139,3 @@ module _ (h : Header) (r : Right h) (full : length (h .planes) ≡ layersMost) w
 pub printed-opens : (h : Header) → right h ≡ true → length (h .planes) ≡ layersMost → (body : List ℕ) → length body ≤ cellBytes * h .cells
     → opening (headerText h ++ body) ≡ accepting h (length (headerText h))
 printed-opens h e full body fits = opening-of (headerText h ++ body) h (length (headerText h)) (printed-lines h (right-yes h e) full (headerText h ++ body) body refl fits)
-
--- so two headers have two texts, whatever follows them
-pub one-header : (h h′ : Header) → right h ≡ true → right h′ ≡ true → length (h .planes) ≡ layersMost → length (h′ .planes) ≡ layersMost
-    → (body body′ : List ℕ) → length body ≤ cellBytes * h .cells → length body′ ≤ cellBytes * h′ .cells → headerText h ++ body ≡ headerText h′ ++ body′ → h ≡ h′
-one-header h h′ r r′ full full′ body body′ fits fits′ e = ap (λ (o : Opening). o .header) (sym (printed-opens h r full body fits) ∙ ap opening e ∙ printed-opens h′ r′ full′ body′ fits′)

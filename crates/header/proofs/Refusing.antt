@@ -1,20 +1,30 @@
--- What opening answers: line by line, it is a refusal 5, 6 or 7 with a blank header and the length 0, or it accepts.
-use mathlib.Core.List.{List}
-use mathlib.Core.Path.{_≡_, refl}
+-- What opening answers: line by line, it is a refusal 5, 6 or 7 with a blank header and the length 0, or it accepts. And what a call that opens a card makes of the code's
+-- answer: each variant but the first is a refusal, and beside the first the header is right.
+use mathlib.Core.Bool.{true}
+use mathlib.Core.List.{List, [], _∷_}
+use mathlib.Core.Path.{_≡_, refl, sym, ap, _∙_}
 use Prim.Native.Nat.{ℕ, _+_, _*_, _/_, _≤_}
 use native.Mathlib.Omega.{arith}
+use denote.Enum.Declared.{tagOf}
+use types.Run.{OneOf, miss}
 use lib.Dec.{ltb}
 use lib.ListN.{length, drop}
 use Rattle.layers.specs.declared.Shape.{Shape}
 use Rattle.layers.specs.declared.Curve.{Curve}
 use Rattle.layers.specs.Limits.{pointsMost, levelsMost, stepMost}
+use Rattle.integers.proofs.Bools.{choice}
 use Rattle.text.specs.Line.{newline, before, lineAt}
 use Rattle.header.specs.declared.Header.{Header}
-use Rattle.header.specs.Refusals.{refusal}
+use Rattle.header.specs.declared.Opened.{Opened}
+use Rattle.header.specs.declared.Refusal.{Refusal}
+use Rattle.header.specs.declared.Refusal.the-variants as R
+use Rattle.header.specs.Refusals.{refusal, detailsOf}
 use Rattle.header.specs.Header.{cellBytes, ascii}
-use Rattle.header.specs.Opening.{Opening, no, curveLine, curveOf, padded, openingCells, openingPlanes, openingStep, openingCurve, openingLevels, openingCols, opening}
-use Rattle.header.proofs.Turns.{turn, turn-planes, turn-last}
+use Rattle.header.specs.Opening.{Opening, no, told, right, curveLine, curveOf, padded, openingCells, openingPlanes, openingStep, openingCurve, openingLevels, openingCols, opening}
+use Rattle.header.proofs.Turns.{turn, turn-planes}
 use Rattle.header.proofs.HeaderLines.{sized, headed, Accepts, accepting}
+use Rattle.header.proofs.Opens.{opened-right}
+use Rattle.header.proofs.Refusal.{the-type}
 
 pub data Answer : Opening → Type 0 where
   accepts : (h : Header) (long : ℕ) → Answer (accepting h long)
@@ -27,7 +37,7 @@ module _ (bs : List ℕ) where
   unfolding openingCells
   cells-answer h at =
       turn Answer 7 (lineAt (ascii "cells=") (h .cells) (h .cells) (drop at bs)) _ cut (wrong 7 (omega arith) (omega arith)) (λ _ n _.
-      turn-last Answer (ltb (at + n + cellBytes * h .cells) (length bs)) (no (refusal 7 0 0)) (accepting h (at + n)) (λ _. trailing) (λ _. accepts h (at + n)))
+      choice Answer (ltb (at + n + cellBytes * h .cells) (length bs)) (λ _. trailing) (λ _. accepts h (at + n)))
 
   planes-answer : (sh : Shape) (curve : Curve) (step at : ℕ) → Answer (openingPlanes bs sh curve step at)
   unfolding openingPlanes
@@ -63,8 +73,26 @@ refused-blank cut n = refl
 refused-blank (wrong line l m) n = refl
 refused-blank trailing n = refl
 
-pub accepts-plainly : {o : Opening} → Answer o → Accepts o → o ≡ accepting (o .header) (o .long)
-accepts-plainly (accepts h long) e = refl
-accepts-plainly cut e = absurd (let z : ⊥ = omega arith in z)
-accepts-plainly (wrong line l m) e = absurd (let z : ⊥ = omega arith in z)
-accepts-plainly trailing e = absurd (let z : ⊥ = omega arith in z)
+-- ---- the code's answer
+-- every variant but the first is a refusal
+pub refusing : (r : Refusal) → OneOf (1 ∷ 2 ∷ 3 ∷ 4 ∷ 5 ∷ 6 ∷ 7 ∷ 8 ∷ 9 ∷ 10 ∷ 11 ∷ []) (tagOf the-type r) → detailsOf r .number ≡ 0 → ⊥
+refusing R.Accepted k e = miss (1 ∷ 2 ∷ 3 ∷ 4 ∷ 5 ∷ 6 ∷ 7 ∷ 8 ∷ 9 ∷ 10 ∷ 11 ∷ []) 0 tt k
+refusing R.BadSize k e = omega arith
+refusing R.BadSettings k e = omega arith
+refusing R.BadLengths k e = omega arith
+refusing (R.BadSample row col) k e = omega arith
+refusing R.HeaderCut k e = omega arith
+refusing (R.BadLine line) k e = omega arith
+refusing R.TrailingBytes k e = omega arith
+refusing (R.BadPlane layer) k e = omega arith
+refusing (R.BadPlan place) k e = omega arith
+refusing R.LimitBelowStep k e = omega arith
+refusing R.BadCoefficient k e = omega arith
+
+-- and beside the first the header is right
+module _ (bs : List ℕ) (o : Opened) (e : told o ≡ opening bs) (yes : o .refusal ≡ R.Accepted) where
+  pub opened-accepts : Accepts (opening bs)
+  opened-accepts = ap (λ (x : Opening). x .refused .number) (sym e) ∙ ap (λ (r : Refusal). detailsOf r .number) yes
+
+  pub header-right : right (o .header) ≡ true
+  header-right = ap (λ (x : Opening). right (x .header)) e ∙ opened-right bs opened-accepts .right-is

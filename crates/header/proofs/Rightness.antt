@@ -1,17 +1,19 @@
 -- What `right` says of a header, as facts on naturals: its tests one by one, both ways.
 use mathlib.Core.Bool.{Bool, true, false, cond, not, _&&_}
+use mathlib.Core.List.{List}
 use mathlib.Core.Path.{_≡_, refl}
 use Prim.Native.Nat.{ℕ, _<_, _≤_}
+use native.Mathlib.Decide.{decLt}
 use native.Mathlib.Omega.{arith}
-use borrow.Author.Tests.{ltb-true, ltb-false, leb-true, le-leb, eqb-true, eq-eqb, ne-eqb, lt-ltb, le-ltb}
+use borrow.Author.Tests.{leb-true, le-leb, eqb-true, eq-eqb, ne-eqb, lt-ltb, le-ltb}
 use lib.Dec.{ltb, leb, eqb}
-use lib.ListN.{length, List·getD-eq-default}
+use lib.ListN.{length, getD, List·getD-eq-default}
 use Rattle.layers.specs.declared.Shape.{Shape}
 use Rattle.layers.specs.Limits.{layersMost, stepMost}
 use Rattle.layers.specs.Sheet.{accepted, layers, layerSize}
 use Rattle.layers.specs.Calls.{sizing}
 use Rattle.layers.proofs.Accepting.{accepted-yes}
-use Rattle.integers.proofs.Bools.{and-left, and-right, and-both, by}
+use Rattle.integers.proofs.Bools.{and-left, and-right, and-both, by, choice}
 use Rattle.header.specs.declared.Header.{Header}
 use Rattle.header.specs.Header.{placesMost, planesOf, cellsOf}
 use Rattle.header.specs.Plan.{firstOver}
@@ -22,11 +24,7 @@ use Rattle.header.proofs.Over.{none-over, over-none}
 module _ (sh : Shape) (k : ℕ) where
   pub most-le : planesMost sh k ≤ placesMost
   unfolding planesMost
-  most-le = go (ltb k (layers sh) && not (eqb (layerSize sh k) 0))
-    where
-      go : (t : Bool) → cond t placesMost 0 ≤ placesMost
-      go true = omega arith
-      go false = omega arith
+  most-le = choice (λ (n : ℕ). n ≤ placesMost) (ltb k (layers sh) && not (eqb (layerSize sh k) 0)) (λ t. omega arith) (λ t. omega arith)
 
   pub most-past : layers sh ≤ k → planesMost sh k ≡ 0
   unfolding planesMost
@@ -100,16 +98,11 @@ module _ {h : Header} (r : Right h) where
   pub counts-empty : (k : ℕ) → k < layersMost → layerSize (h .shape) k ≡ 0 → planesOf h k ≡ 0
   counts-empty k l e = omega (arith, r .counts k l, most-empty (h .shape) k e)
 
--- where the list has a count for each layer there may be and no more, for every number
-module _ {h : Header} (r : Right h) (long : length (h .planes) ≡ layersMost) where
-  none-there : (k : ℕ) → layersMost ≤ k → planesOf h k ≡ 0
-  none-there k l = List·getD-eq-default (h .planes) 0 (omega arith)
-
-  pub all-counts : (k : ℕ) → planesOf h k ≤ planesMost (h .shape) k
-  all-counts k = by (ltb k layersMost) (λ t. r .counts k (ltb-true k layersMost t)) (λ t. omega (arith, none-there k (ltb-false k layersMost t)))
-
-  pub all-few : (k : ℕ) → planesOf h k ≤ placesMost
-  all-few k = omega (arith, all-counts k, most-le (h .shape) k)
-
-  pub all-past : (k : ℕ) → layers (h .shape) ≤ k → planesOf h k ≡ 0
-  all-past k p = omega (arith, all-counts k, most-past (h .shape) k p)
+-- where the list has a count for each layer there may be and no more, so at every place
+pub all-few : (sh : Shape) (planes : List ℕ) → length planes ≡ layersMost → ((k : ℕ) → k < layersMost → getD planes k 0 ≤ planesMost sh k)
+    → (k : ℕ) → getD planes k 0 ≤ placesMost
+all-few sh planes long counts k =
+    elim (decLt k layersMost) [
+      | yes l ↦ omega (arith, counts k l, most-le sh k)
+      | no l ↦ omega (arith, List·getD-eq-default planes 0 {n = k} (omega arith))
+    ]

@@ -1,13 +1,12 @@
 -- A line that was read is the definition's line: the same key and the same bounds, compared one by one. Its length stays within the bytes.
-use mathlib.Core.Path.{_≡_, refl, sym}
-use mathlib.Core.Bool.{Bool, true, false, cond}
+use mathlib.Core.Path.{_≡_, sym}
+use mathlib.Core.Bool.{Bool, true, false}
 use mathlib.Core.List.{List, _++_}
 use Prim.Native.Nat.{ℕ, _+_, _*_, _/_, _<_, _≤_}
 use native.Mathlib.Nat.{le-refl, mul-le-mul, mul-div-le}
 use native.Mathlib.Omega.{arith}
-use lib.Dec.{ltb}
 use lib.ListN.{length, take, drop, length-drop}
-use borrow.Author.Tests.{ltb-true, lt-ltb, le-ltb}
+use borrow.Author.Tests.{lt-ltb, le-ltb}
 use Rattle.layers.specs.declared.Curve.the-variants.{Linear, Cubic}
 use Rattle.text.specs.declared.Line.{Line}
 use Rattle.text.specs.declared.Line.the-variants.{Short, Wrong, Number}
@@ -15,6 +14,7 @@ use Rattle.text.specs.Line.{newline, before, starts, lineAt}
 use Rattle.text.proofs.Lines.{Written, written}
 use Rattle.header.specs.Header.{ascii, curveText}
 use Rattle.header.specs.Opening.{same, curveLine}
+use Rattle.header.proofs.CurveLine.{read-curve}
 
 module _ (key : List ℕ) (low high : ℕ) (l : List ℕ) where
   pub read : {k : List ℕ} {a b : ℕ} {r : Line} → r ≡ lineAt k a b l → k ≡ key → a ≡ low → b ≡ high → lineAt key low high l ≡ r
@@ -34,20 +34,7 @@ module _ (bs : List ℕ) (at : ℕ) (n : ℕ) where
       ends (w .end-is) (w .fits)
 
   pub curve-ends : (v : ℕ) → curveLine (drop at bs) ≡ Number v n → at + n ≤ length bs
-  unfolding curveLine
-  curve-ends v e =
-      by (ltb (before newline (drop at bs)) (length (drop at bs)))
-      (same (ascii "curve=" ++ curveText Linear) (take (before newline (drop at bs)) (drop at bs)))
-      (same (ascii "curve=" ++ curveText Cubic) (take (before newline (drop at bs)) (drop at bs)))
-      refl e
-    where
-      by : (s t u : Bool) → ltb (before newline (drop at bs)) (length (drop at bs)) ≡ s
-          → cond s (cond t (Number 0 (before newline (drop at bs) + 1)) (cond u (Number 1 (before newline (drop at bs) + 1)) Wrong)) Short ≡ Number v n
-          → at + n ≤ length bs
-      by false t u q e = absurd (let z : _≡_ {A = ℕ} 0 1 = cc in let y : ⊥ = omega arith in y)
-      by true true u q e = let k : before newline (drop at bs) + 1 ≡ n = cc in ends (sym k) (omega (arith, ltb-true (before newline (drop at bs)) (length (drop at bs)) q))
-      by true false true q e = let k : before newline (drop at bs) + 1 ≡ n = cc in ends (sym k) (omega (arith, ltb-true (before newline (drop at bs)) (length (drop at bs)) q))
-      by true false false q e = absurd (let z : _≡_ {A = ℕ} 0 1 = cc in let y : ⊥ = omega arith in y)
+  curve-ends v e = let r = read-curve (drop at bs) v n e in ends (r .end-is) (r .fits)
 
 -- ---- the line of the curve, by what its parts are
 

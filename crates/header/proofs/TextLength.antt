@@ -2,7 +2,7 @@
 use mathlib.Core.List.{List}
 use mathlib.Core.Path.{_≡_}
 use Prim.Native.Nat.{ℕ, _+_, _*_, _^_, _<_, _≤_, min}
-use native.Mathlib.Nat.{mul-le-mul-left, mul-le-mul-right}
+use native.Mathlib.Nat.{mul-le-mul-left}
 use native.Mathlib.Omega.{arith}
 use lib.ListN.{length, take, length-append, length-take}
 use lib.Seq.{getD-take}
@@ -10,6 +10,7 @@ use Rattle.layers.specs.declared.Curve.{Curve}
 use Rattle.layers.specs.declared.Curve.the-variants.{Linear, Cubic}
 use Rattle.layers.specs.Limits.{layersMost}
 use Rattle.layers.proofs.Accepting.{Sheet, accepted-yes}
+use Rattle.layers.proofs.Fits.{rows-small, cols-small}
 use Rattle.text.specs.Decimal.{digits}
 use Rattle.text.proofs.Digits.{length-le, length-20}
 use Rattle.text.proofs.Lines.{line-length}
@@ -76,8 +77,8 @@ right-fits {h} r =
       text-length h,
       curve-length (h .curve),
       listed-most h 2 (λ k i. length-le 1 (planesOf h k) (omega (arith, counts-few r k i))),
-      length-le 3 (h .shape .rows) rows-few,
-      length-le 3 (h .shape .cols) cols-few,
+      length-le 3 (h .shape .rows) (omega (arith, rows-small sizes)),
+      length-le 3 (h .shape .cols) (omega (arith, cols-small sizes)),
       length-le 0 (h .shape .levels) (omega (arith, sizes .shallow)),
       length-le 4 (h .step) (omega (arith, r .step)),
       length-le 3 (h .cells) (omega (arith, right-cells r)),
@@ -85,12 +86,6 @@ right-fits {h} r =
   where
     sizes : Sheet (h .shape)
     sizes = accepted-yes (h .shape) (r .shape)
-
-    rows-few : h .shape .rows < 10 ^ 4
-    rows-few = omega (arith, sizes .small, mul-le-mul-left (h .shape .rows) (sizes .wide))
-
-    cols-few : h .shape .cols < 10 ^ 4
-    cols-few = omega (arith, sizes .small, mul-le-mul-right (h .shape .cols) (sizes .tall))
 
 pub card-fits : {h : Header} → Right h → length (headerText h) + cellBytes * h .cells ≤ 32768
 card-fits r = omega (arith, right-fits r, right-cells r)

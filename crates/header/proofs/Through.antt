@@ -1,28 +1,26 @@
 -- The cells up to a plane's end, as the loops count them: a sum over 13 layers, whose terms are small and fall with the place. So the planes that are whole are counted from the top until one is not.
-use mathlib.Core.Bool.{Bool, true, false, cond}
+use mathlib.Core.Bool.{Bool, cond}
 use mathlib.Core.List.{List}
-use mathlib.Core.Path.{_≡_, refl, ap, sym, _∙_}
+use mathlib.Core.Path.{_≡_, refl, ap, _∙_}
 use Prim.Native.Nat.{ℕ, suc, _+_, _-_, _*_, _<_, _≤_}
 use native.Mathlib.Decide.{decLt}
-use native.Mathlib.Nat.{le-trans, mul-le-mul, mul-le-mul-left}
+use native.Mathlib.Nat.{mul-le-mul, mul-le-mul-left}
 use native.Mathlib.Omega.{arith}
-use borrow.Author.Tests.{le-leb, lt-leb, leb-true, lt-ltb, le-ltb}
+use borrow.Author.Tests.{le-leb, lt-leb, lt-ltb, le-ltb}
 use lib.Dec.{leb, ltb}
-use lib.ListN.{length, getD, List·getD-eq-default}
+use lib.ListN.{getD, List·getD-eq-default}
 use Rattle.layers.specs.Limits.{layersMost}
 use Rattle.layers.specs.Lists.{total, count, tabulate}
-use Rattle.layers.specs.Sheet.{accepted, layers}
+use Rattle.layers.specs.Sheet.{layers}
 use Rattle.layers.specs.declared.Shape.{Shape}
-use Rattle.integers.proofs.Bools.{by, not-yes}
-use Rattle.layers.proofs.Lists.{count-yes, count-same, getD-tabulate, length-tabulate}
+use Rattle.layers.proofs.Lists.{count-yes, count-never, count-same, getD-tabulate, length-tabulate}
 use Rattle.header.specs.declared.Header.{Header}
 use Rattle.header.specs.Header.{placesMost, cellBytes, planesOf, cellsAt}
 use Rattle.header.specs.CardOrder.{widthMost, cellsThrough, isWhole, whole}
 use Rattle.header.proofs.Rightness.{Right, counts-past}
-use Rattle.header.proofs.Totals.{total-le, total-most, total-suc}
-use Rattle.header.proofs.Tops.{count-never}
-use Rattle.header.proofs.CardOrder.{at-inside, at-past, cells-through}
-use Rattle.header.proofs.Total.{plane-most}
+use Rattle.header.proofs.Totals.{total-le, total-most}
+use Rattle.header.proofs.CardOrder.{cells-through}
+use Rattle.header.proofs.Total.{at-most}
 
 -- small numbers in both lists
 abbrev pub Small : List ℕ → List ℕ → Type 0
@@ -64,17 +62,13 @@ module _ (widths planes : List ℕ) (k : ℕ) where
     pub there-none : (m : ℕ) → 0 < m → n < cellBytes * cellsThrough widths planes k (m - 1) → count there m ≡ 0
     there-none m h l = count-never there m (λ p i. lt-leb (cellBytes * cellsThrough widths planes k p) n (omega (arith, through-falls p (m - 1) (omega arith))))
 
--- ---- behind a right header
-module _ (sh : Shape) (ok : accepted sh ≡ true) where
-  pub width-most : (j : ℕ) → getD (tabulate layersMost (cellsAt sh)) j 0 ≤ widthMost
-  width-most j =
-      elim (decLt j layersMost) [
-        | yes l ↦ rw (getD-tabulate layersMost (cellsAt sh) j 0 l) (inside j)
-        | no l ↦ rw (List·getD-eq-default (tabulate layersMost (cellsAt sh)) 0 {n = j} (omega (arith, length-tabulate layersMost (cellsAt sh)))) (omega arith)
-      ]
-    where
-      inside : (j : ℕ) → cellsAt sh j ≤ widthMost
-      inside j = elim (decLt j (layers sh)) [ yes l ↦ rw (at-inside sh ok j l) (plane-most sh ok j) | no l ↦ rw (at-past sh ok j (omega arith)) (omega arith) ]
+-- ---- of a header
+pub width-most : (sh : Shape) (j : ℕ) → getD (tabulate layersMost (cellsAt sh)) j 0 ≤ widthMost
+width-most sh j =
+    elim (decLt j layersMost) [
+      | yes l ↦ rw (getD-tabulate layersMost (cellsAt sh) j 0 l) (at-most sh j)
+      | no l ↦ rw (List·getD-eq-default (tabulate layersMost (cellsAt sh)) 0 {n = j} (omega (arith, length-tabulate layersMost (cellsAt sh)))) (omega arith)
+    ]
 
 module _ (h : Header) (r : Right h) (n k : ℕ) (hk : k < layersMost) where
   pub there-whole : count (there (tabulate layersMost (cellsAt (h .shape))) (h .planes) k n) (planesOf h k) ≡ whole h n k

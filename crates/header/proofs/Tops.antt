@@ -1,18 +1,13 @@
 -- Places counted by a test that passes at every place above one where it passes: those that pass are the topmost, so the count says where they begin. The places from p on are counted by themselves.
 use mathlib.Core.Bool.{Bool, true, false, true≢false}
-use mathlib.Core.Path.{_≡_, refl, sym, _∙_}
-use Prim.Native.Nat.{ℕ, zero, suc, _+_, _-_, _<_, _≤_}
+use mathlib.Core.Path.{_≡_, sym, _∙_}
+use Prim.Native.Nat.{ℕ, _+_, _-_, _<_, _≤_}
 use native.Mathlib.Omega.{arith}
 use lib.Dec.{leb}
 use borrow.Author.Tests.{le-leb, lt-leb}
 use Rattle.layers.specs.Lists.{count}
-use Rattle.layers.proofs.Lists.{count-add, count-most, count-all, count-no}
+use Rattle.layers.proofs.Lists.{count-add, count-most, count-all, count-never}
 use Rattle.integers.proofs.Bools.{by, not-yes}
-
-pub count-never : (t : ℕ → Bool) (n : ℕ) → ((i : ℕ) → i < n → t i ≡ false) → count t n ≡ 0
-unfolding count
-count-never t zero h = refl
-count-never t (suc n) h = omega (arith, count-no t n (h n (omega arith)), count-never t n (λ i l. h i (omega arith)))
 
 -- upward closed below m
 abbrev pub Rising : (ℕ → Bool) → ℕ → Type 0
@@ -37,13 +32,3 @@ module _ (t : ℕ → Bool) (m : ℕ) (up : Rising t m) where
   -- a place passes exactly where it is among the topmost so many
   pub top-law : (p : ℕ) → p < m → t p ≡ leb m (p + count t m)
   top-law p h = by (t p) (λ e. e ∙ sym (le-leb m (p + count t m) (top-passes p h e))) (λ e. e ∙ sym (lt-leb m (p + count t m) (top-fails p h e)))
-
-  pub top-only : (p : ℕ) → p < m → m ≤ p + count t m → t p ≡ true
-  top-only p h l = top-law p h ∙ le-leb m (p + count t m) l
-
-  -- counting from the top: one that passes is counted, and one that does not ends the count
-  pub top-more : (c : ℕ) → c < m → t (m - 1 - c) ≡ true → c < count t m
-  top-more c h e = omega (arith, top-passes (m - 1 - c) (omega arith) e)
-
-  pub top-last : (c : ℕ) → c < m → t (m - 1 - c) ≡ false → count t m ≤ c
-  top-last c h e = omega (arith, top-fails (m - 1 - c) (omega arith) e)

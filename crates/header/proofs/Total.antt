@@ -11,9 +11,8 @@ use Rattle.integers.specs.Floor.{ceilDiv}
 use Rattle.layers.specs.declared.Shape.{Shape}
 use Rattle.layers.specs.Lists.{total}
 use Rattle.layers.specs.Sheet.{accepted, layers, layerSize}
-use Rattle.layers.specs.Calls.{sizing}
 use Rattle.layers.proofs.Accepting.{accepted-yes}
-use Rattle.integers.proofs.Bools.{by, and-left}
+use Rattle.integers.proofs.Bools.{choice, and-left}
 use Rattle.layers.proofs.Places.{size-most}
 use Rattle.layers.proofs.Size.{layers-fill}
 use Rattle.header.specs.declared.Header.{Header}
@@ -62,14 +61,10 @@ module _ (sh : Shape) (ok : accepted sh ≡ true) where
 pub right-cells : {h : Header} → Right h → h .cells ≤ cellsMost
 right-cells {h} r = omega (arith, r .cells, cells-most (h .shape) (r .shape) (h .planes) (λ k l. counts-few r k (omega (arith, layers-few r))))
 
--- ---- the cells of one plane as the code works them out: from the layer's size, 0 where the layer is not there
-pub at-sizing : (sh : Shape) (k : ℕ) → cellsAt sh k ≡ ceilDiv (sizing sh k) cellPoints
-unfolding cellsAt sizing planeCells ceilDiv
-at-sizing sh k = by (accepted sh && ltb k (layers sh)) (λ t. rw t) (λ t. rw t (omega arith))
-
+-- one plane of a layer that may not be there
 pub at-most : (sh : Shape) (k : ℕ) → cellsAt sh k ≤ widthMost
 unfolding cellsAt
 at-most sh k =
-    by (accepted sh && ltb k (layers sh))
-    (λ t. rw t (plane-most sh (and-left (accepted sh) (ltb k (layers sh)) t) k))
-    (λ t. rw t (omega arith))
+    choice (λ (n : ℕ). n ≤ widthMost) (accepted sh && ltb k (layers sh))
+    (λ t. plane-most sh (and-left (accepted sh) (ltb k (layers sh)) t) k)
+    (λ t. omega arith)

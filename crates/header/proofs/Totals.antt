@@ -5,6 +5,7 @@ use native.Mathlib.Nat.{le-refl}
 use native.Mathlib.Decide.{decLt, ℕ-discrete}
 use native.Mathlib.Omega.{arith}
 use Rattle.layers.specs.Lists.{total}
+use Rattle.layers.proofs.Rises.{rises}
 
 pub total-same : (f g : ℕ → ℕ) (n : ℕ) → ((i : ℕ) → i < n → f i ≡ g i) → total f n ≡ total g n
 unfolding total
@@ -44,22 +45,8 @@ total-bump f g s (suc n) d k e h =
       | no q ↦ omega (arith, total-suc f n, total-suc g n, total-bump f g s n d (omega arith) e (λ i l m. h i (omega arith) m), h n (le-refl (suc n)) (λ x. q (sym x)))
     ]
 
--- a term is within the sum
-pub total-at : (f : ℕ → ℕ) (n i : ℕ) → i < n → f i ≤ total f n
-total-at f zero i h = absurd (let z : ⊥ = omega arith in z)
-total-at f (suc n) i h =
-    elim (decLt i n) [
-      | yes l ↦ omega (arith, total-suc f n, total-at f n i l)
-      | no l ↦ let e : i ≡ n = omega arith in omega (arith, total-suc f n, ap f e)
-    ]
-
 pub total-rises : (f : ℕ → ℕ) (m n : ℕ) → m ≤ n → total f m ≤ total f n
-total-rises f m zero h = let e : m ≡ 0 = omega arith in rw e (le-refl _)
-total-rises f m (suc n) h =
-    elim (decLt n m) [
-      | yes l ↦ let e : m ≡ suc n = omega arith in rw e (le-refl _)
-      | no l ↦ omega (arith, total-suc f n, total-rises f m n (omega arith))
-    ]
+total-rises f = rises (total f) (λ n. omega (arith, total-suc f n))
 
 -- terms of at most b
 pub total-most : (f : ℕ → ℕ) (b n : ℕ) → ((i : ℕ) → i < n → f i ≤ b) → total f n ≤ n * b

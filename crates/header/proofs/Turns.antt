@@ -40,7 +40,3 @@ module _ (P : Opening → Type 0) where
       by true false o e f g = wrong
       by true true none e f g = wrong
       by true true (some counts) e f g = rest counts (record { inside = ltb-true _ _ e; key = f; counts-are = g })
-
-  pub turn-last : (t : Bool) (o o′ : Opening) → (t ≡ true → P o) → (t ≡ false → P o′) → P (cond t o o′)
-  turn-last true o o′ holds fails = holds refl
-  turn-last false o o′ holds fails = fails refl

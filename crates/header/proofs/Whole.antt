@@ -1,23 +1,22 @@
 -- Whole planes: a higher place of a layer comes earlier, so where a plane is whole all above it in its layer are, and the count of the whole ones says which they are.
-use mathlib.Core.Bool.{true, false}
+use mathlib.Core.Bool.{true}
 use mathlib.Core.Path.{_≡_, sym, _∙_}
 use Prim.Native.Nat.{ℕ, _+_, _-_, _*_, _<_, _≤_}
-use native.Mathlib.Nat.{le-trans}
 use native.Mathlib.Decide.{decLt}
 use native.Mathlib.Omega.{arith}
 use borrow.Author.Tests.{le-leb, leb-true, lt-ltb, le-ltb}
 use lib.Dec.{leb, ltb}
 use Rattle.layers.specs.Limits.{layersMost}
-use Rattle.layers.specs.Lists.{count, tabulate}
+use Rattle.layers.specs.Lists.{count}
 use Rattle.layers.specs.Sheet.{layers}
 use Rattle.integers.proofs.Bools.{by}
 use Rattle.layers.proofs.Lists.{count-most, count-all}
 use Rattle.header.specs.declared.Header.{Header}
-use Rattle.header.specs.Header.{cellBytes, planesOf, planeCells, cellsAt, cellsOf}
-use Rattle.header.specs.CardOrder.{cellsBefore, cellsThrough, isWhole, whole}
+use Rattle.header.specs.Header.{cellBytes, planesOf, planeCells, cellsOf}
+use Rattle.header.specs.CardOrder.{cellsBefore, isWhole, whole}
 use Rattle.header.proofs.Rightness.{Right, counts-past}
-use Rattle.header.proofs.CardOrder.{cells-fall, cells-within, cells-through}
-use Rattle.header.proofs.Tops.{Rising, top-law, top-more, top-last}
+use Rattle.header.proofs.CardOrder.{cells-fall, cells-within}
+use Rattle.header.proofs.Tops.{Rising, top-law}
 
 module _ (h : Header) (n k : ℕ) where
   -- the bytes up to the plane's end
@@ -32,11 +31,8 @@ module _ (h : Header) (n k : ℕ) where
   unfolding isWhole
   fits-whole p l = le-leb (end p) n l
 
-  pub whole-above : (p q : ℕ) → p ≤ q → isWhole h n k p ≡ true → isWhole h n k q ≡ true
-  whole-above p q l e = fits-whole q (omega (arith, whole-fits p e, cells-fall h k p q l))
-
   pub whole-rising : (m : ℕ) → Rising (isWhole h n k) m
-  whole-rising m p q l _ e = whole-above p q l e
+  whole-rising m p q l _ e = fits-whole q (omega (arith, whole-fits p e, cells-fall h k p q l))
 
   -- ---- the count
   pub whole-past : layers (h .shape) ≤ k → whole h n k ≡ 0
@@ -56,34 +52,14 @@ module _ (h : Header) (n k : ℕ) where
     pub whole-law : (p : ℕ) → p < planesOf h k → isWhole h n k p ≡ leb (planesOf h k) (p + whole h n k)
     whole-law p l = rw whole-counts (top-law (isWhole h n k) (planesOf h k) (whole-rising (planesOf h k)) p l)
 
-    pub whole-counted : (p : ℕ) → p < planesOf h k → isWhole h n k p ≡ true → planesOf h k ≤ p + whole h n k
-    whole-counted p l e = leb-true _ _ (sym (whole-law p l) ∙ e)
-
     pub counted-whole : (p : ℕ) → p < planesOf h k → planesOf h k ≤ p + whole h n k → isWhole h n k p ≡ true
     counted-whole p l m = whole-law p l ∙ le-leb _ _ m
-
-    -- counting from the top
-    pub whole-more : (c : ℕ) → c < planesOf h k → isWhole h n k (planesOf h k - 1 - c) ≡ true → c < whole h n k
-    whole-more c l e = rw whole-counts (top-more (isWhole h n k) (planesOf h k) (whole-rising (planesOf h k)) c l e)
-
-    pub whole-last : (c : ℕ) → c < planesOf h k → isWhole h n k (planesOf h k - 1 - c) ≡ false → whole h n k ≤ c
-    whole-last c l e = rw whole-counts (top-last (isWhole h n k) (planesOf h k) (whole-rising (planesOf h k)) c l e)
 
     -- with all cells there all planes are whole
     pub whole-all : cellBytes * cellsOf (h .shape) (h .planes) ≤ n → whole h n k ≡ planesOf h k
     whole-all l =
         whole-counts
         ∙ count-all (isWhole h n k) (planesOf h k) (λ p i. fits-whole p (omega (arith, cells-within h k p hk i)))
-
--- more bytes leave no fewer planes whole
-pub whole-grows : (h : Header) (m n k p : ℕ) → m ≤ n → isWhole h m k p ≡ true → isWhole h n k p ≡ true
-whole-grows h m n k p l e = fits-whole h n k p (le-trans (whole-fits h m k p e) l)
-
--- as the loops ask it, by the lists
-pub whole-through : (h : Header) → Right h → (n k p : ℕ) → k < layers (h .shape)
-    → isWhole h n k p ≡ leb (cellBytes * cellsThrough (tabulate layersMost (cellsAt (h .shape))) (h .planes) k p) n
-unfolding isWhole
-whole-through h r n k p hk = rw (cells-through h r k p hk)
 
 -- behind a right header all planes are whole where all its cells are there
 pub whole-right : (h : Header) → Right h → (n : ℕ) → cellBytes * h .cells ≤ n → (k : ℕ) → k < layersMost → whole h n k ≡ planesOf h k

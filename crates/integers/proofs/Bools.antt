@@ -1,6 +1,6 @@
 -- Tests and their outcomes, each law by the cases of its tests.
 use mathlib.Core.Path.{_≡_, refl, sym}
-use mathlib.Core.Bool.{Bool, true, false, cond, _&&_, _||_, false≢true}
+use mathlib.Core.Bool.{Bool, true, false, cond, _&&_, _||_, false≢true, true≢false}
 use lib.Dec.{T}
 
 pub and-left : (a b : Bool) → a && b ≡ true → a ≡ true
@@ -64,6 +64,14 @@ pub or-right : (a b : Bool) → b ≡ true → a || b ≡ true
 or-right true b e = refl
 or-right false b e = e
 
+pub or-no-left : (a b : Bool) → a || b ≡ false → a ≡ false
+or-no-left true b e = e
+or-no-left false b e = refl
+
+pub or-no-right : (a b : Bool) → a || b ≡ false → b ≡ false
+or-no-right true b e = absurd (true≢false e)
+or-no-right false b e = e
+
 pub not-yes : (a : Bool) → (a ≡ true → ⊥) → a ≡ false
 not-yes true h = absurd (h refl)
 not-yes false h = refl
@@ -76,6 +84,11 @@ cond-yes false x y e = absurd (false≢true e)
 pub cond-no : {A : Type 0} (b : Bool) (x y : A) → b ≡ false → cond b x y ≡ y
 cond-no true x y e = absurd (false≢true (sym e))
 cond-no false x y e = refl
+
+-- what holds of both arms of a choice
+pub choice : {A : Type 0} (P : A → Type 0) {x y : A} (b : Bool) → (b ≡ true → P x) → (b ≡ false → P y) → P (cond b x y)
+choice P true holds fails = holds refl
+choice P false holds fails = fails refl
 
 pub is-true : (b : Bool) → T b → b ≡ true
 is-true true t = refl

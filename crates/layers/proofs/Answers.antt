@@ -62,6 +62,15 @@ samples-by sh e xs y long clear =
     let s = settled-yes sh e y in
     record { shape = s .0; step = s .1; long = long; small = λ p hp. clear-within (sh .cols) xs clear p (omega arith) }
 
+-- ---- a slice
+pub full-yes : (sh : Shape) (l : List ℤ) → length l ≡ points sh → full sh l ≡ true
+unfolding full
+full-yes sh l e = eq-eqb (length l) (points sh) e
+
+pub full-no : (sh : Shape) (l : List ℤ) → (length l ≡ points sh → ⊥) → full sh l ≡ false
+unfolding full
+full-no sh l n = ne-eqb (length l) (points sh) n
+
 -- ---- quantizing
 -- an answer with what it leaves in the two slices
 abbrev pub Comes : Quantizing → Quantized → List ℤ → List ℤ → Type 0
@@ -79,21 +88,21 @@ module _ (sh : Shape) (curve : Curve) (e : ℕ) (xs qs vs : List ℤ) where
   not-full n = refused (unfold quantizable in (and-no-right (settled sh e) (full sh xs && (full sh qs && full sh vs)) n))
 
   pub samples-short : (length xs ≡ points sh → ⊥) → Comes (quantizing sh curve e xs qs vs) Refused qs vs
-  samples-short n = not-full (unfold full in (and-no-left (full sh xs) (full sh qs && full sh vs) (ne-eqb _ _ n)))
+  samples-short n = not-full (and-no-left (full sh xs) (full sh qs && full sh vs) (full-no sh xs n))
 
   pub coefficients-short : (length qs ≡ points sh → ⊥) → Comes (quantizing sh curve e xs qs vs) Refused qs vs
-  coefficients-short n = not-full (and-no-right (full sh xs) (full sh qs && full sh vs) (and-no-left (full sh qs) (full sh vs) (unfold full in (ne-eqb _ _ n))))
+  coefficients-short n = not-full (and-no-right (full sh xs) (full sh qs && full sh vs) (and-no-left (full sh qs) (full sh vs) (full-no sh qs n)))
 
   pub values-short : (length vs ≡ points sh → ⊥) → Comes (quantizing sh curve e xs qs vs) Refused qs vs
-  values-short n = not-full (and-no-right (full sh xs) (full sh qs && full sh vs) (and-no-right (full sh qs) (full sh vs) (unfold full in (ne-eqb _ _ n))))
+  values-short n = not-full (and-no-right (full sh xs) (full sh qs && full sh vs) (and-no-right (full sh qs) (full sh vs) (full-no sh vs n)))
 
   -- every size is right
   pub right : settled sh e ≡ true → length xs ≡ points sh → length qs ≡ points sh → length vs ≡ points sh → quantizable sh e xs qs vs ≡ true
-  unfolding quantizable full
+  unfolding quantizable
   right s x q v =
       and-both (settled sh e) (full sh xs && (full sh qs && full sh vs)) s
-      (and-both (full sh xs) (full sh qs && full sh vs) (eq-eqb _ _ x)
-      (and-both (full sh qs) (full sh vs) (eq-eqb _ _ q) (eq-eqb _ _ v)))
+      (and-both (full sh xs) (full sh qs && full sh vs) (full-yes sh xs x)
+      (and-both (full sh qs) (full sh vs) (full-yes sh qs q) (full-yes sh vs v)))
 
   pub after-scan : quantizable sh e xs qs vs ≡ true → (s : Scan) → s ≡ scanned (sh .cols) xs → quantizing sh curve e xs qs vs ≡ afterScan sh curve e xs qs vs s
   unfolding quantizing

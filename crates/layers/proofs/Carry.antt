@@ -36,6 +36,18 @@ unfolding carried ceilDiv
 carried-mono Cubic m n h = omega arith
 carried-mono Linear m n h = h
 
+-- strictly
+pub carried-rising : (c : Curve) (m n : ℕ) → m < n → carried c m < carried c n
+unfolding carried ceilDiv
+carried-rising Cubic m n h = omega arith
+carried-rising Linear m n h = h
+
+-- no curve carries further than the cubic one
+pub carried-cubic : (c : Curve) (m : ℕ) → carried c m ≤ carried Cubic m
+unfolding carried ceilDiv
+carried-cubic Cubic m = omega arith
+carried-cubic Linear m = omega arith
+
 -- a curve that takes four values carries as the cubic one does
 five : (c : Curve) (m : ℕ) → c ≡ Cubic → ceilDiv (5 * m) 4 ≤ carried c m
 unfolding carried

@@ -22,6 +22,7 @@ use Rattle.layers.specs.Prediction.{predicted, predictedAt}
 use Rattle.layers.specs.Layering.{layering, pointBy}
 use Rattle.layers.specs.Loops.{gridFor, gridOf}
 use Rattle.layers.proofs.Parity.{divided}
+use Rattle.layers.proofs.Fits.{spacing-some, spacing-small}
 use Rattle.integers.proofs.Bools.{and-both, and-no-left, and-no-right}
 
 abbrev pub onGrid : Grid → ℕ → ℕ → Bool
@@ -42,6 +43,10 @@ pub grid-good : (dir : Direction) (s : ℕ) → 0 < s → s ≤ 2 ^ levelsMost �
 grid-good Anchor s h k = omega arith
 grid-good Across s h k = omega arith
 grid-good Down s h k = omega arith
+
+-- so every layer's is
+pub layer-good : (l k : ℕ) → l ≤ levelsMost → Good (gridOf l k)
+layer-good l k h = grid-good (direction k) (spacing l k) (spacing-some l k) (spacing-small l k h)
 
 -- between x and x + d, and before the first, no number leaves the same rest
 pub gap : (d x y b : ℕ) → x % d ≡ b → x < y → y < x + d → eqb (y % d) b ≡ false

@@ -1,6 +1,5 @@
 -- The laws of writing and reading, for any proper layering, each from `two-runs`.
 --     rebuilt-any, written-any, coefs-any    it does not matter what stood in the memory before
---     rebuilt-same       values follow from the coefficients alone
 --     read-back          reading what was written gives the values written
 --     write-back, coefs-back     writing what was read gives its values and its coefficients again
 --     written-near       every value written is within the step of its sample
@@ -28,10 +27,6 @@ pub length-rebuilt : (Y : Layering) (e : ℕ) (qs : List ℤ) → length (rebuil
 unfolding rebuilt
 length-rebuilt Y e qs = length-values Y (reads e qs) (blank Y) (Y .layers) ∙ length-blank Y
 
-pub length-written : (Y : Layering) (e : ℕ) (xs : List ℤ) → length (written Y e xs) ≡ Y .points
-unfolding written
-length-written Y e xs = length-values Y (writes e xs) (blank Y) (Y .layers) ∙ length-blank Y
-
 pub length-coefs : (Y : Layering) (e : ℕ) (xs : List ℤ) → length (coefs Y e xs) ≡ Y .points
 unfolding coefs
 length-coefs Y e xs = length-alongside Y (writes e xs) (blank Y) (makes e xs) (blank Y) (Y .layers) ∙ length-blank Y
@@ -52,12 +47,6 @@ module _ (Y : Layering) (ok : Proper Y) (e : ℕ) where
       same-alongside Y ok (writes e xs) (writes e xs) vs (blank Y) l (length-blank Y) (λ k hk p hp m. refl) (makes e xs) qs (blank Y) lq (length-blank Y)
 
   -- ---- reading
-  pub rebuilt-same : (qs qs′ : List ℤ) → ((p : ℕ) → p < Y .points → at qs p ≡ at qs′ p) → rebuilt Y e qs ≡ rebuilt Y e qs′
-  unfolding rebuilt
-  rebuilt-same qs qs′ same =
-      same-runs Y ok (reads e qs) (reads e qs′) (blank Y) (blank Y) (length-blank Y) (length-blank Y)
-      (λ k hk p hp m. ap (λ (q : ℤ). rebuiltFrom (Y .predict k (valuesBy Y (reads e qs′) (blank Y) k) p) q e) (same p hp))
-
   -- what is made at a point of layer k
   pub coef-at : (xs : List ℤ) (k p : ℕ) → k < Y .layers → p < Y .points → Y .mem k p ≡ true
       → at (coefs Y e xs) p ≡ makes e xs (Y .predict k (valuesBy Y (writes e xs) (blank Y) k) p) p

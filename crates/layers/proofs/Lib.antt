@@ -1,3 +1,4 @@
+pub mod Rises
 pub mod Lists
 pub mod Parity
 pub mod Accepting

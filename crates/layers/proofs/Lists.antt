@@ -6,10 +6,11 @@ use native.Mathlib.Nat.{le-refl, le-of-suc-le-suc, not-suc-le-zero}
 use native.Mathlib.Decide.{decLt}
 use native.Mathlib.Omega.{arith}
 use lib.Dec.{eqb}
-use lib.ListN.{length, getD}
+use lib.ListN.{length, getD, replicate}
 use borrow.Author.Tests.{eqb-true, eqb-false, eq-eqb, ne-eqb}
 use Rattle.layers.specs.Lists.{tabulate, count, nth}
 use Rattle.integers.proofs.Bools.{by, and-both, and-no-left, and-no-right}
+use Rattle.layers.proofs.Rises.{rises}
 
 module _ {A : Type 0} where
   pub length-tabulate : (n : ℕ) (f : ℕ → A) → length (tabulate n f) ≡ n
@@ -22,6 +23,12 @@ module _ {A : Type 0} where
   getD-tabulate zero f i d h = absurd (not-suc-le-zero h)
   getD-tabulate (suc n) f zero d h = refl
   getD-tabulate (suc n) f (suc i) d h = getD-tabulate n (λ i. f (suc i)) i d (le-of-suc-le-suc h)
+
+-- a list of zeros has 0 everywhere, and past its end too
+pub getD-zeros : (n i : ℕ) → _≡_ {A = ℕ} (getD (replicate n 0) i 0) 0
+getD-zeros zero i = refl
+getD-zeros (suc n) zero = refl
+getD-zeros (suc n) (suc i) = getD-zeros n i
 
 -- ---- counting
 module _ (t : ℕ → Bool) where
@@ -37,12 +44,7 @@ module _ (t : ℕ → Bool) where
   count-next n = by (t n) (λ m. omega (arith, count-yes n m)) (λ m. omega (arith, count-no n m))
 
   pub count-rises : (m n : ℕ) → m ≤ n → count t m ≤ count t n
-  count-rises m zero h = let e : m ≡ 0 = omega arith in rw e (le-refl _)
-  count-rises m (suc n) h =
-      elim (decLt n m) [
-        | yes lt ↦ let e : m ≡ suc n = omega arith in rw e (le-refl _)
-        | no ge ↦ omega (arith, count-rises m n (omega arith), count-next n)
-      ]
+  count-rises = rises (count t) count-next
 
   pub count-most : (n : ℕ) → count t n ≤ n
   unfolding count
@@ -59,6 +61,12 @@ module _ (t : ℕ → Bool) where
     where
       never : count t p < count t n → ⊥
       never l = omega arith
+
+  -- and where none pass, none are counted
+  pub count-never : (n : ℕ) → ((i : ℕ) → i < n → t i ≡ false) → count t n ≡ 0
+  unfolding count
+  count-never zero h = refl
+  count-never (suc n) h = omega (arith, count-no n (h n (le-refl (suc n))), count-never n (λ i l. h i (omega arith)))
 
   -- ---- the one with i before it
   pub nth-here : (n i : ℕ) → t n ≡ true → count t n ≡ i → nth t (suc n) i ≡ n
@@ -120,9 +128,7 @@ count-either t u v (suc n) apart is =
     step false false h e = e
 
 pub count-empty : (n : ℕ) → count (λ i. false) n ≡ 0
-unfolding count
-count-empty zero = refl
-count-empty (suc n) = count-empty n
+count-empty n = count-never (λ i. false) n (λ i l. refl)
 
 pub count-all : (t : ℕ → Bool) (n : ℕ) → ((i : ℕ) → i < n → t i ≡ true) → count t n ≡ n
 count-all t zero h = unfold count in refl

@@ -3,8 +3,8 @@
 use mathlib.Core.Path.{_≡_, sym, subst}
 use mathlib.Core.Bool.{true}
 use mathlib.Core.List.{List}
-use Prim.Native.Nat.{ℕ, zero, suc, _+_, _-_, _*_, _/_, _%_, _^_, _<_, _≤_}
-use native.Mathlib.Nat.{le-refl, le-trans, mul-le-mul-left}
+use Prim.Native.Nat.{ℕ, zero, suc, _+_, _*_, _/_, _%_, _^_, _<_, _≤_}
+use native.Mathlib.Nat.{le-trans, mul-le-mul-left}
 use native.Mathlib.Omega.{arith}
 use lib.Arith.{digits-lt, digits-div, digits-mod}
 use lib.IntN.{ℤ, pos}
@@ -21,15 +21,16 @@ use Rattle.layers.specs.Limits.{layersMost, stepMost}
 use Rattle.layers.specs.Lists.{at}
 use Rattle.layers.specs.Sheet.{accepted, points, layers, has, inLayer, direction, spacing}
 use Rattle.layers.specs.Prediction.{width, rebuiltFrom, predicted, predictedAt}
-use Rattle.layers.specs.Layering.{layering, valuesBy, blank, reads, writes, rebuilt, written, coefs}
+use Rattle.layers.specs.Layering.{layering, valuesBy, blank, reads, writes, coefs}
 use Rattle.layers.specs.Carry.{carried, carry}
 use Rattle.layers.specs.Loops.{writtenMost, predictedMost, valueMost, Below, Samples}
+use Rattle.layers.proofs.Rises.{rises}
 use Rattle.layers.proofs.Accepting.{accepted-yes}
 use Rattle.layers.proofs.Point.{within-more, rebuilt-carry, coefficient-range}
 use Rattle.layers.proofs.Members.{layer-of}
 use Rattle.layers.proofs.Law.{length-blank, coef-at, stage-near, stage-rel}
 use Rattle.layers.proofs.SheetLaw.{Rule, sheet-carries, sheet-proper}
-use Rattle.layers.proofs.Carry.{carried-up, within-rule, within-near, near-within, sheet-within}
+use Rattle.layers.proofs.Carry.{carried-up, carried-cubic, within-rule, within-near, near-within, sheet-within}
 
 pub written-carried : (c : Curve) → carried c writtenMost ≤ predictedMost
 unfolding carried ceilDiv
@@ -77,12 +78,6 @@ module _ {sh : Shape} {e : ℕ} {xs : List ℤ} (ok : Samples sh e xs) (curve : 
       let w = valuesBy (layering sh curve) (writes e xs) vs k in
       within-more (written-carried curve) (sheet-within sh (ok .shape) curve k hk writtenMost w w (stage-small vs l k (omega arith)) p hp m)
 
-  pub written-small : (p : ℕ) → p < points sh → Within writtenMost (at (written (layering sh curve) e xs) p)
-  unfolding written
-  written-small p hp =
-      let Y = layering sh curve in
-      stage-small (blank Y) (length-blank Y) (layers sh) (le-refl _) p hp (sheet-proper sh (ok .shape) curve .all p)
-
   -- a coefficient is no larger than the distance from the prediction to the sample
   pub coefs-small : (p : ℕ) → p < points sh → Within 2441215 (at (coefs (layering sh curve) e xs) p)
   coefs-small p hp =
@@ -107,21 +102,12 @@ limit-rises : (B k : ℕ) → limit B k ≤ limit B (suc k)
 unfolding limit
 limit-rises B k = omega (arith, carried-up Cubic (limit B k))
 
-limit-more : (B k j : ℕ) → limit B k ≤ limit B (k + j)
-limit-more B k zero = let e : k + 0 ≡ k = omega arith in rw e (le-refl _)
-limit-more B k (suc j) = let e : k + suc j ≡ suc (k + j) = omega arith in rw e (le-trans (limit-more B k j) (limit-rises B (k + j)))
-
 pub limit-all : (B k n : ℕ) → k ≤ n → limit B k ≤ limit B n
-limit-all B k n h = let e : k + (n - k) ≡ n = omega arith in (rw e at (limit-more B k (n - k)))
+limit-all B = rises (limit B) (limit-rises B)
 
 pub limit-most : limit (2 ^ 31) layersMost ≤ valueMost
 unfolding limit carried ceilDiv
 limit-most = omega arith
-
-carried-cubic : (c : Curve) (m : ℕ) → carried c m ≤ carried Cubic m
-unfolding carried ceilDiv
-carried-cubic Cubic m = le-refl _
-carried-cubic Linear m = omega arith
 
 size-rule : (c : Curve) (m : ℕ) → Rule c (λ a _. Within m a) (λ a _. Within (carried Cubic m) a)
 size-rule c m =
@@ -160,12 +146,6 @@ module _ (sh : Shape) (ok : accepted sh ≡ true) (curve : Curve) (e : ℕ) (ste
   few : (k : ℕ) → k ≤ layers sh → limit (2 ^ 31) k ≤ valueMost
   few k hk = le-trans (limit-all (2 ^ 31) k layersMost (omega (arith, accepted-yes sh ok .shallow))) limit-most
 
-  module _ (small : (p : ℕ) → p < points sh → Within (2 ^ 31) (at qs p)) where
-    pub any-limit : (vs : List ℤ) → length vs ≡ points sh → (k : ℕ) → k ≤ layers sh → Below valueMost sh curve k (valuesBy (layering sh curve) (reads e qs) vs k)
-    any-limit vs l k hk p hp y = within-more (few k hk) (stage-limit (2 ^ 31) small vs l k hk p hp y)
-
-    pub values-limit : (p : ℕ) → p < points sh → Within valueMost (at (rebuilt (layering sh curve) e qs) p)
-    unfolding rebuilt
-    values-limit p hp =
-        let Y = layering sh curve in
-        any-limit (blank Y) (length-blank Y) (layers sh) (le-refl _) p hp (sheet-proper sh ok curve .all p)
+  pub any-limit : ((p : ℕ) → p < points sh → Within (2 ^ 31) (at qs p)) → (vs : List ℤ) → length vs ≡ points sh → (k : ℕ) → k ≤ layers sh
+      → Below valueMost sh curve k (valuesBy (layering sh curve) (reads e qs) vs k)
+  any-limit small vs l k hk p hp y = within-more (few k hk) (stage-limit (2 ^ 31) small vs l k hk p hp y)

@@ -3,10 +3,9 @@
 use mathlib.Core.Path.{_≡_, refl, sym, ap, _∙_}
 use mathlib.Core.Bool.{true, false, true≢false, false≢true}
 use mathlib.Core.List.{List}
-use Prim.Native.Nat.{ℕ, zero, suc, _+_, _<_, _≤_}
+use Prim.Native.Nat.{ℕ, zero, suc, _<_, _≤_}
 use native.Mathlib.Nat.{le-refl, not-suc-le-zero}
 use native.Mathlib.Decide.{decLt}
-use native.Mathlib.Numerals.{add-one}
 use native.Mathlib.Omega.{arith}
 use lib.IntN.{ℤ, pos}
 use lib.ListN.{length}
@@ -19,15 +18,6 @@ use Rattle.layers.proofs.Members.{mem-known, layer-of}
 
 -- ---- runs
 module _ (Y : Layering) (g : ℤ → ℕ → ℤ) (vs : List ℤ) where
-  -- layer by layer
-  pub values-none : valuesBy Y g vs 0 ≡ vs
-  unfolding valuesBy
-  values-none = refl
-
-  pub values-more : (k : ℕ) → valuesBy Y g vs (k + 1) ≡ layerBy Y k g (valuesBy Y g vs k) (valuesBy Y g vs k)
-  unfolding valuesBy
-  values-more k = rw (add-one k)
-
   pub length-values : (k : ℕ) → length (valuesBy Y g vs k) ≡ length vs
   unfolding valuesBy layerBy
   length-values zero = refl
@@ -46,14 +36,6 @@ module _ (Y : Layering) (g : ℤ → ℕ → ℤ) (vs : List ℤ) where
   value-made k p h m = value-step k p h ∙ rw m
 
   module _ (h : ℤ → ℕ → ℤ) (qs : List ℤ) where
-    pub alongside-none : alongside Y g h vs qs 0 ≡ qs
-    unfolding alongside
-    alongside-none = refl
-
-    pub alongside-more : (k : ℕ) → alongside Y g h vs qs (k + 1) ≡ layerBy Y k h (valuesBy Y g vs k) (alongside Y g h vs qs k)
-    unfolding alongside
-    alongside-more k = rw (add-one k)
-
     pub length-alongside : (k : ℕ) → length (alongside Y g h vs qs k) ≡ length qs
     unfolding alongside layerBy
     length-alongside zero = refl

@@ -47,6 +47,13 @@ cond-rel : (R : ℤ → ℤ → Type 0) (t : Bool) {x x′ y y′ : ℤ} → (t 
 cond-rel R true p q = p refl
 cond-rel R false p q = q refl
 
+-- a point of a layer stands at an odd multiple of s on its line
+pub across-odd : (s r c : ℕ) → member Across s r c ≡ true → c % (2 * s) ≡ s
+across-odd s r c m = eqb-true _ _ (and-right (eqb (r % (2 * s)) 0) (eqb (c % (2 * s)) s) m)
+
+pub down-odd : (s r c : ℕ) → member Down s r c ≡ true → r % (2 * s) ≡ s
+down-odd s r c m = eqb-true _ _ (and-left (eqb (r % (2 * s)) s) (eqb (c % s) 0) m)
+
 module _ (curve : Curve) (R R′ : ℤ → ℤ → Type 0) (rule : Rule curve R R′) (l l′ : List ℤ) where
   -- two lists that stand in R at the even multiples of s along a line have predictions in R′ at an odd one
   line-rel : (start stride n t s : ℕ) → 0 < s → t % (2 * s) ≡ s → t < n
@@ -73,16 +80,22 @@ module _ (curve : Curve) (R R′ : ℤ → ℤ → Type 0) (rule : Rule curve R 
       → R′ (predicted sh curve dir s l r c) (predicted sh curve dir s l′ r c)
   predicted-rel sh s some Anchor r c hr hc m rel none = none refl
   predicted-rel sh s some Across r c hr hc m rel none =
-      line-rel (r * sh .cols) 1 (sh .cols) c s some (eqb-true _ _ (and-right (eqb (r % (2 * s)) 0) (eqb (c % (2 * s)) s) m)) hc
+      line-rel (r * sh .cols) 1 (sh .cols) c s some (across-odd s r c m) hc
       (λ u hu even. rw (mul-one u) (rel r u hr hu (refl, even)))
   predicted-rel sh s some Down r c hr hc m rel none =
-      line-rel c (sh .cols) (sh .rows) r s some (eqb-true _ _ (and-left (eqb (r % (2 * s)) s) (eqb (c % s) 0) m)) hr
+      line-rel c (sh .cols) (sh .rows) r s some (down-odd s r c m) hr
       (λ u hu even. rw (add-comm c (u * sh .cols)) (rel u c hu hc (refl, even)))
 
 pub known-is : (sh : Shape) (curve : Curve) (k p : ℕ) → Y.known (layering sh curve) k p ≡ known (sh .levels) k (p / sh .cols) (p % sh .cols)
 unfolding Y.known known inLayer
 known-is sh curve zero p = refl
 known-is sh curve (suc k) p = ap (λ (t : Bool). t || has (sh .levels) k (p / sh .cols) (p % sh .cols)) (known-is sh curve k p)
+
+-- what a point of a layer looks at is known before that layer
+pub looks-at : (sh : Shape) (curve : Curve) (k r c r′ c′ : ℕ) → k ≤ 2 * sh .levels → has (sh .levels) k r c ≡ true → c′ < sh .cols
+    → Looks (direction k) (spacing (sh .levels) k) r c r′ c′ → Y.known (layering sh curve) k (r′ * sh .cols + c′) ≡ true
+looks-at sh curve k r c r′ c′ hk m hc lo =
+    known-is sh curve k (r′ * sh .cols + c′) ∙ rw (digits-div r′ hc, digits-mod r′ hc) (looks-known (sh .levels) k r c r′ c′ hk m lo)
 
 -- the anchors stand in layer 0
 anchor-first : (k : ℕ) → direction k ≡ Anchor → k ≡ 0
@@ -102,9 +115,7 @@ module _ (sh : Shape) (ok : accepted sh ≡ true) (curve : Curve) where
       let wide = accepted-yes sh ok .wide in
       predicted-rel curve R R′ rule vs vs′ sh (spacing (sh .levels) k) (spacing-some (sh .levels) k) (direction k) r c
       (div-lt-iff-lt-mul wide .1 hp) (mod-lt p wide) m
-      (λ r′ c′ hr hc lo. rel (r′ * sh .cols + c′) (digits-lt hr hc)
-      (known-is sh curve k (r′ * sh .cols + c′)
-      ∙ rw (digits-div r′ hc, digits-mod r′ hc) (looks-known (sh .levels) k r c r′ c′ (omega arith) m lo)))
+      (λ r′ c′ hr hc lo. rel (r′ * sh .cols + c′) (digits-lt hr hc) (looks-at sh curve k r c r′ c′ (omega arith) m hc lo))
       (λ e. none (anchor-first k e))
 
   pub sheet-proper : Proper (layering sh curve)

@@ -1,9 +1,9 @@
 -- The error law of a sheet: coefficients that differ by at most off k in layer k give values that differ by at most what stands after all
 -- layers. It is the error law with the sheet's carry; a layer with a point is not empty.
 use mathlib.Core.Path.{_≡_, sym, _∙_}
-use mathlib.Core.Bool.{Bool, true, false, cond, true≢false}
+use mathlib.Core.Bool.{true, true≢false}
 use mathlib.Core.List.{List}
-use Prim.Native.Nat.{ℕ, zero, suc, _+_, _*_, _<_, _≤_}
+use Prim.Native.Nat.{ℕ, suc, _+_, _*_, _<_, _≤_}
 use native.Mathlib.Nat.{le-refl, zero-div, zero-mod}
 use native.Mathlib.Omega.{arith}
 use lib.Arith.{digits-lt}
@@ -23,7 +23,7 @@ use Rattle.integers.proofs.Bools.{by}
 use Rattle.layers.proofs.Accepting.{accepted-yes}
 use Rattle.layers.proofs.Places.{size-none}
 use Rattle.layers.proofs.SheetLaw.{sheet-proper}
-use Rattle.layers.proofs.Carry.{carried-none, carried-up, carried-mono, sheet-near}
+use Rattle.layers.proofs.Carry.{carried-none, carried-up, sheet-near}
 use Rattle.layers.proofs.Law.{read-back, written-near}
 use Rattle.layers.proofs.Error.{error}
 
@@ -58,16 +58,6 @@ first-some sh ok z =
 pub standing-first : (sh : Shape) → accepted sh ≡ true → (curve : Curve) (own : ℕ → ℕ) → standing sh curve own 1 ≡ own 0
 unfolding standing
 standing-first sh ok curve own = standing-more sh curve own 0 (first-some sh ok) ∙ rw (carried-none curve) (omega arith)
-
--- what stands is no less where the layers add no less
-pub standing-mono : (sh : Shape) (curve : Curve) (own own′ : ℕ → ℕ) → ((k : ℕ) → own k ≤ own′ k) → (k : ℕ) → standing sh curve own k ≤ standing sh curve own′ k
-unfolding standing
-standing-mono sh curve own own′ le zero = le-refl 0
-standing-mono sh curve own own′ le (suc k) = step (eqb (layerSize sh k) 0) (standing-mono sh curve own own′ le k)
-  where
-    step : (t : Bool) {m n : ℕ} → m ≤ n → cond t m (carry sh curve k m + own k) ≤ cond t n (carry sh curve k n + own′ k)
-    step true h = h
-    step false {m} {n} h = omega (arith, carried-mono curve m n h, le k)
 
 module _ (sh : Shape) (ok : accepted sh ≡ true) (curve : Curve) (e : ℕ) (off : ℕ → ℕ) where
   pub sheet-error : (qs qs′ : List ℤ)

@@ -4,13 +4,14 @@
 -- already changed the places before i.
 --     Swept p        the list as the sweep has it when it has come to p: the places before p are new, those from p on old
 --     swept-none, swept-more, swept-skip, swept-all     at the start, after a store at p, past places outside, and at the end
-use mathlib.Core.Path.{_≡_, refl, sym, _∙_, subst}
+use mathlib.Core.Path.{_≡_, refl, sym, _∙_}
 use mathlib.Core.Bool.{Bool, true, false}
 use mathlib.Core.List.{List}
 use Prim.Native.Nat.{ℕ, _+_, _<_, _≤_}
-use native.Mathlib.Nat.{not-suc-le-zero, le-refl}
-use native.Mathlib.Decide.{ℕ-discrete, decLt}
+use native.Mathlib.Nat.{le-refl}
+use native.Mathlib.Decide.{decLt}
 use native.Mathlib.Omega.{arith}
+use borrow.Author.Count.{below-none, below-more}
 use lib.ListN.{length, getD, set, length-set}
 use lib.Seq.{ext-getD, getD-set-same, getD-set-other}
 use Rattle.layers.specs.Lists.{tabulate}
@@ -30,7 +31,7 @@ module _ {A : Type 0} where
 
   module _ (d : A) (n : ℕ) (f : List A → ℕ → A) (mem : ℕ → Bool) (loc : Local d n f mem) where
     pub swept-none : (l₀ : List A) → Swept d f l₀ 0 l₀
-    swept-none l₀ = record { same = refl; done = λ i h. absurd (not-suc-le-zero h); left = λ i h. refl }
+    swept-none l₀ = record { same = refl; done = below-none _; left = λ i h. refl }
 
     -- the places outside the set are as they were, all through the sweep
     pub outside : {l₀ l : List A} {p : ℕ} → Swept d f l₀ p l → (j : ℕ) → mem j ≡ false → getD l j d ≡ getD l₀ j d
@@ -48,11 +49,9 @@ module _ {A : Type 0} where
     swept-more {l₀} {l} {p} v e h k₀ w =
         record {
           same = length-set l p v ∙ w .same;
-          done = λ i k.
-              elim (ℕ-discrete i p) [
-                | yes q ↦ subst (λ (x : ℕ). getD (set l p v) x d ≡ f l₀ x) (sym q) (getD-set-same l p v d (omega (arith, w .same)) ∙ e ∙ swept-here h w)
-                | no q ↦ getD-set-other l p i v d q ∙ w .done i (omega arith)
-              ];
+          done = below-more (λ (i : ℕ). getD (set l p v) i d ≡ f l₀ i) p
+              (λ i k. getD-set-other l p i v d (omega arith) ∙ w .done i k)
+              (getD-set-same l p v d (omega (arith, w .same)) ∙ e ∙ swept-here h w);
           left = λ i k. getD-set-other l p i v d (omega arith) ∙ w .left i (omega arith);
         }
 

@@ -2,18 +2,19 @@
 use mathlib.Core.Bool.{Bool, true}
 use mathlib.Core.List.{List}
 use mathlib.Core.Path.{_≡_}
-use Prim.Native.Nat.{ℕ, zero, suc, _≤_}
+use Prim.Native.Nat.{ℕ, _≤_}
 use native.Mathlib.Nat.{le-refl}
 use native.Mathlib.Omega.{arith}
 use borrow.Author.Tests.{le-leb}
 use lib.ListN.{length, replicate, length-replicate}
 use Rattle.layers.specs.Limits.{layersMost}
 use Rattle.layers.specs.Sheet.{layers}
+use Rattle.layers.proofs.Lists.{getD-zeros}
 use Rattle.header.specs.declared.Header.{Header}
 use Rattle.header.specs.Header.{planesOf, cellsOf}
 use Rattle.header.proofs.Figures.{figure-all}
 use Rattle.header.proofs.Totals.{total-none}
-use Rattle.planner.specs.Planning.{counts, PlanOf, plansOf, better, bestOf, Best, cellsIn, figureIn, withinLimit, withinCells, betterByLimit, betterByCells, bestByLimit, bestByCells}
+use Rattle.planner.specs.Planning.{PlanOf, plansOf, better, bestOf, Best, cellsIn, figureIn, withinLimit, withinCells, betterByLimit, betterByCells, bestByLimit, bestByCells}
 use Rattle.planner.proofs.Orders.{better-strict, better-apart}
 use Rattle.planner.proofs.AllPlans.{plans-has, plans-only}
 use Rattle.planner.proofs.KeepsBest.{kept-has, kept-least}
@@ -48,18 +49,13 @@ module _ (h : Header) (long : length (h .planes) ≡ layersMost) (limit : ℕ) (
   by-limit-only ns b = best-unique h (withinLimit h limit) (cellsIn h) (figureIn h) ns (bestByLimit h limit) b by-limit-best
 
 -- ---- in so many cells
-zeros : (n k : ℕ) → counts (replicate n 0) k ≡ 0
-zeros zero k = omega arith
-zeros (suc n) zero = omega arith
-zeros (suc n) (suc k) = zeros n k
-
 module _ (h : Header) (most : ℕ) where
   none-plan : PlanOf h (replicate layersMost 0)
-  none-plan = record { long = length-replicate {A = ℕ} layersMost 0; within = λ k. omega (arith, zeros layersMost k) }
+  none-plan = record { long = length-replicate {A = ℕ} layersMost 0; within = λ k. omega (arith, getD-zeros layersMost k) }
 
   none-cells : cellsIn h (replicate layersMost 0) ≡ 0
   unfolding cellsOf
-  none-cells = total-none _ (layers (h .shape)) (λ k _. rw (zeros layersMost k) (omega arith))
+  none-cells = total-none _ (layers (h .shape)) (λ k _. rw (getD-zeros layersMost k) (omega arith))
 
   pub by-cells-best : Best h (withinCells h most) (betterByCells h) (bestByCells h most)
   unfolding bestByCells

@@ -5,7 +5,7 @@ use Prim.Native.Nat.{ℕ, zero, suc, _+_, _-_, _*_, _<_, _≤_}
 use native.Mathlib.Nat.{le-refl}
 use native.Mathlib.Decide.{decLt, ℕ-discrete}
 use native.Mathlib.Omega.{arith}
-use borrow.Author.Tests.{ne-eqb, le-ltb}
+use borrow.Author.Tests.{ne-eqb}
 use Rattle.layers.specs.Calls.{sizing}
 use Rattle.layers.specs.Carry as C
 use Rattle.layers.specs.Limits.{layersMost}
@@ -13,9 +13,9 @@ use Rattle.layers.specs.Lists.{total}
 use Rattle.layers.specs.Sheet.{layers, layerSize}
 use Rattle.layers.proofs.Standing.{standing-empty, standing-more}
 use Rattle.header.specs.declared.Header.{Header}
-use Rattle.header.specs.Header.{planesOf, cellsAt, cellsOf}
+use Rattle.header.specs.Header.{planesOf, cellsOf}
 use Rattle.header.specs.Figure.{ownLoss, figureOf}
-use Rattle.header.proofs.Cells.{size-there, size-past, cells-there}
+use Rattle.header.proofs.Cells.{size-there, size-past, cells-there, cells-past}
 use Rattle.header.proofs.Figures.{standing-most}
 use Rattle.header.proofs.Limits.{loss-none}
 use Rattle.header.proofs.Rightness.{Right, layers-few, counts-past, counts-empty}
@@ -30,15 +30,11 @@ cells-total L n (suc k) = omega (arith, cells-total L n k)
 
 module _ {h : Header} (r : Right h) where
   -- ---- the cells
-  width-past : (k : ℕ) → layers (h .shape) ≤ k → cellsAt (h .shape) k ≡ 0
-  unfolding cellsAt
-  width-past k l = simp (r .shape, le-ltb k (layers (h .shape)) l)
-
   pub cells-same : (ns : List ℕ) → cells (layersOf h) (counts ns) layersMost ≡ cellsIn h ns
   unfolding cellsOf
   cells-same ns =
       cells-total (layersOf h) (counts ns) layersMost
-      ∙ total-past _ (layers (h .shape)) layersMost (layers-few r) (λ k l _. rw (width-past k l) (omega arith))
+      ∙ total-past _ (layers (h .shape)) layersMost (layers-few r) (λ k l _. rw (cells-past (h .shape) (r .shape) k l) (omega arith))
       ∙ total-same _ _ (layers (h .shape)) (λ k l. rw (cells-there (h .shape) (r .shape) k l) (omega arith))
 
   -- ---- what stands, whatever is loaded

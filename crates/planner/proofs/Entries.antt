@@ -2,17 +2,17 @@
 use mathlib.Core.Bool.{true}
 use mathlib.Core.Path.{_≡_, refl, ap, _∙_}
 use Prim.Native.Nat.{ℕ, zero, suc, _+_, _-_, _*_, _≤_, _<_, min}
-use native.Mathlib.Nat.{le-refl, le-trans, mul-le-mul-right, le-of-suc-le-suc, not-suc-le-zero}
+use native.Mathlib.Nat.{le-refl, mul-le-mul-right, le-of-suc-le-suc, not-suc-le-zero}
 use native.Mathlib.Decide.{decLe, decLt}
 use native.Mathlib.Omega.{arith}
 use borrow.Author.Tests.{le-leb, lt-leb, ne-eqb}
 use Rattle.layers.specs.Limits.{layersMost}
+use Rattle.layers.proofs.Rises.{rises}
 use Rattle.header.specs.declared.Header.{Header}
 use Rattle.header.specs.Header.{cellsMost}
-use Rattle.header.specs.CardOrder.{widthMost}
 use Rattle.header.specs.Opening.{right}
 use Rattle.header.proofs.Rightness.{right-yes, counts-few, layers-few}
-use Rattle.header.proofs.Total.{at-most, cells-most}
+use Rattle.header.proofs.Total.{cells-most}
 use Rattle.planner.specs.Table.{Layers, layersOf, cells, reach, none, leastOf, choice, best}
 use Rattle.planner.proofs.RisingCarry.{Rising, carry-up}
 use Rattle.planner.proofs.Bridge.{cells-same}
@@ -129,24 +129,15 @@ reach-all L m h zero = le-refl 0
 reach-all L m h (suc k) = omega (arith, reach-all L m h k, mul-le-mul-right (L .width k) (h k))
 
 pub reach-rises : (L : Layers) (j k : ℕ) → j ≤ k → reach L j ≤ reach L k
-reach-rises L j zero h = let e : j ≡ 0 = omega arith in rw e (le-refl _)
-reach-rises L j (suc k) h =
-    elim (decLt k j) [
-      | yes l ↦ let e : j ≡ suc k = omega arith in rw e (le-refl _)
-      | no l ↦ le-trans (reach-rises L j k (omega arith)) (unfold cells in (omega arith))
-    ]
+reach-rises L = rises (reach L) (λ k. unfold cells in (omega arith))
 
 -- ---- of a header
-module _ (h : Header) where
-  pub width-most : (k : ℕ) → layersOf h .width k ≤ widthMost
-  width-most k = at-most (h .shape) k
-
-  pub reach-most : right h ≡ true → (k : ℕ) → k ≤ layersMost → reach (layersOf h) k ≤ cellsMost
-  reach-most ok k l =
-      let r = right-yes h ok in
-      omega (
-        arith,
-        reach-rises (layersOf h) k layersMost l,
-        cells-same r (h .planes),
-        cells-most (h .shape) (r .shape) (h .planes) (λ j i. counts-few r j (omega (arith, layers-few r))),
-      )
+pub reach-most : (h : Header) → right h ≡ true → (k : ℕ) → k ≤ layersMost → reach (layersOf h) k ≤ cellsMost
+reach-most h ok k l =
+    let r = right-yes h ok in
+    omega (
+      arith,
+      reach-rises (layersOf h) k layersMost l,
+      cells-same r (h .planes),
+      cells-most (h .shape) (r .shape) (h .planes) (λ j i. counts-few r j (omega (arith, layers-few r))),
+    )

@@ -1,21 +1,14 @@
--- Planning, by what opening answers: a refusal is passed on, and behind a header that was opened, which is right, a plan that was found is the answer.
-use mathlib.Core.Bool.{true}
-use mathlib.Core.List.{List, [], _∷_}
-use mathlib.Core.Path.{_≡_, sym, ap, _∙_}
+-- Planning, by what opening answers: a refusal is passed on, and behind a header that was opened a plan that was found is the answer.
+use mathlib.Core.List.{List}
+use mathlib.Core.Path.{_≡_, _∙_}
 use Prim.Native.Nat.{ℕ, _≤_, _<_}
-use native.Mathlib.Omega.{arith}
 use borrow.Author.Tests.{ne-eqb, lt-ltb, le-ltb}
-use denote.Enum.Declared.{tagOf}
-use types.Run.{OneOf, miss}
 use Rattle.header.specs.declared.Header.{Header}
 use Rattle.header.specs.declared.Opened.{Opened}
-use Rattle.header.specs.declared.Refusal.{Refusal}
 use Rattle.header.specs.declared.Refusal.the-variants as F
 use Rattle.header.specs.Refusals.{refusal, detailsOf}
-use Rattle.header.specs.Opening.{Opening, opening, right}
+use Rattle.header.specs.Opening.{opening}
 use Rattle.header.specs.Opening as O
-use Rattle.header.proofs.Refusal.{the-type}
-use Rattle.header.proofs.Opens.{opened-right}
 use Rattle.planner.specs.declared.Planned.{Planned}
 use Rattle.planner.specs.Planning.{no, found, told, cellsIn, figureIn, byLimit, byCells, bestByLimit, bestByCells}
 use Rattle.planner.specs.Table.{Found}
@@ -31,21 +24,6 @@ found-answer h asked r size figure e f =
     λ i. record { refused = e .0 i; plan = record { planes = f .same i }; cells = own-cells i; figure = own-figure i }
 
 -- ---- what opening answers
--- every variant but the first is a refusal
-pub refusing : (r : Refusal) → OneOf (1 ∷ 2 ∷ 3 ∷ 4 ∷ 5 ∷ 6 ∷ 7 ∷ 8 ∷ 9 ∷ 10 ∷ 11 ∷ []) (tagOf the-type r) → detailsOf r .number ≡ 0 → ⊥
-refusing F.Accepted k e = miss (1 ∷ 2 ∷ 3 ∷ 4 ∷ 5 ∷ 6 ∷ 7 ∷ 8 ∷ 9 ∷ 10 ∷ 11 ∷ []) 0 tt k
-refusing F.BadSize k e = omega arith
-refusing F.BadSettings k e = omega arith
-refusing F.BadLengths k e = omega arith
-refusing (F.BadSample row col) k e = omega arith
-refusing F.HeaderCut k e = omega arith
-refusing (F.BadLine line) k e = omega arith
-refusing F.TrailingBytes k e = omega arith
-refusing (F.BadPlane layer) k e = omega arith
-refusing (F.BadPlan place) k e = omega arith
-refusing F.LimitBelowStep k e = omega arith
-refusing F.BadCoefficient k e = omega arith
-
 module _ (bs : List ℕ) (o : Opened) (e : O.told o ≡ opening bs) where
   module _ (n : detailsOf (o .refusal) .number ≡ 0 → ⊥) where
     pub limit-refused : (limit : ℕ) → no (detailsOf (o .refusal)) ≡ byLimit bs limit
@@ -57,11 +35,6 @@ module _ (bs : List ℕ) (o : Opened) (e : O.told o ≡ opening bs) where
     cells-refused most = rw (← e, ne-eqb (detailsOf (o .refusal) .number) 0 n)
 
   module _ (yes : o .refusal ≡ F.Accepted) where
-    pub header-right : right (o .header) ≡ true
-    header-right =
-        ap (λ (x : Opening). right (x .header)) e
-        ∙ opened-right bs (ap (λ (x : Opening). x .refused .number) (sym e) ∙ ap (λ (f : Refusal). detailsOf f .number) yes) .right-is
-
     pub limit-low : (limit : ℕ) → limit < o .header .step → no (refusal 10 0 0) ≡ byLimit bs limit
     unfolding byLimit
     limit-low limit l = rw (← e, yes, lt-ltb limit (o .header .step) l)

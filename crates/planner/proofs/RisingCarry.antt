@@ -6,11 +6,9 @@ use native.Mathlib.Nat.{le-refl}
 use native.Mathlib.Decide.{decLt}
 use native.Mathlib.Omega.{arith}
 use lib.Dec.{eqb}
-use Rattle.integers.specs.Floor.{ceilDiv}
-use Rattle.layers.specs.declared.Curve.{Curve}
-use Rattle.layers.specs.declared.Curve.the-variants.{Linear, Cubic}
 use Rattle.layers.specs.Calls.{sizing}
-use Rattle.layers.specs.Carry.{carried, carry}
+use Rattle.layers.specs.Carry.{carry}
+use Rattle.layers.proofs.Carry.{carried-rising}
 use Rattle.header.specs.declared.Header.{Header}
 use Rattle.planner.specs.Table.{Layers, layersOf, carryOf}
 
@@ -40,11 +38,6 @@ module _ (L : Layers) (rising : Rising L) where
       ]
 
 -- ---- a header's
-pub carried-rising : (curve : Curve) (a b : ℕ) → a < b → carried curve a < carried curve b
-unfolding carried ceilDiv
-carried-rising Linear a b h = h
-carried-rising Cubic a b h = omega arith
-
 pub header-rising : (h : Header) → Rising (layersOf h)
 unfolding carryOf
 header-rising h k a b l = step (eqb (sizing (h .shape) k) 0)

@@ -61,9 +61,6 @@ length-one h = ap length (one h)
 pub length-two : {n : ℕ} → 10 ≤ n → length (digits n) ≡ length (digits (n / 10)) + 1
 length-two {n} h = ap length (two h) ∙ length-append (digits (n / 10)) ((48 + n % 10) ∷ [])
 
-pub length-pos : (n : ℕ) → 1 ≤ length (digits n)
-length-pos = by-tenths (λ n. 1 ≤ length (digits n)) (λ n l. omega (arith, length-one l)) (λ n l h. omega (arith, length-two l))
-
 -- a number below 10 ^ d has at most d characters, where d is not 0
 pub length-le : (d n : ℕ) → n < 10 ^ suc d → length (digits n) ≤ suc d
 length-le zero n h = omega (arith, length-one {n = n} (omega arith))
@@ -71,23 +68,6 @@ length-le (suc d) n h = by (ltb n 10) refl (λ l. length-le d (n / 10) (omega ar
   by : (t : Bool) → ltb n 10 ≡ t → (10 ≤ n → length (digits (n / 10)) ≤ suc d) → length (digits n) ≤ suc (suc d)
   by true e rest = omega (arith, length-one (ltb-true n 10 e))
   by false e rest = omega (arith, length-two (ltb-false n 10 e), rest (ltb-false n 10 e))
-
-pow-pos : (d : ℕ) → 1 ≤ 10 ^ d
-pow-pos zero = omega arith
-pow-pos (suc d) = omega (arith, pow-pos d)
-
--- and a number from 10 ^ d on has more than d
-pub length-gt : (d n : ℕ) → 10 ^ d ≤ n → d < length (digits n)
-length-gt zero n h = length-pos n
-length-gt (suc d) n h = let l : 10 ≤ n = omega (arith, pow-pos d) in omega (arith, length-two l, length-gt d (n / 10) (omega arith))
-
-pub length-mono : (m n : ℕ) → m ≤ n → length (digits m) ≤ length (digits n)
-length-mono m n = by-tenths (λ n. (m : ℕ) → m ≤ n → length (digits m) ≤ length (digits n)) (λ n l m h. omega (arith, length-one l, length-one {n = m} (omega arith))) step n m where
-  step : (n : ℕ) → 10 ≤ n → ((m : ℕ) → m ≤ n / 10 → length (digits m) ≤ length (digits (n / 10))) → (m : ℕ) → m ≤ n → length (digits m) ≤ length (digits n)
-  step n l rest m h = by (ltb m 10) refl where
-    by : (t : Bool) → ltb m 10 ≡ t → length (digits m) ≤ length (digits n)
-    by true e = omega (arith, length-one (ltb-true m 10 e), length-pos n)
-    by false e = omega (arith, length-two l, length-two (ltb-false m 10 e), rest (m / 10) (omega arith))
 
 -- a u64 has at most twenty
 pub length-20 : (n : ℕ) → n < 2 ^ 64 → length (digits n) ≤ 20

@@ -190,7 +190,3 @@ spelt low high text n e = by (upTo high text) refl e where
         let s : v ≡ n = cc in
         let r : _ = spelt-up-to high text v u in
         record { text-is = r .0 ∙ ap digits s; least = omega (arith, leb-true low v q); most = omega (arith, r .1) }
-
--- two numbers have two spellings
-pub digits-injective : (m n : ℕ) → digits m ≡ digits n → m ≡ n
-digits-injective m n e = let r : Value m ≡ Value n = sym (read-digits 0 (m + n) m (omega arith) (omega arith)) ∙ ap (parsed 0 (m + n)) e ∙ read-digits 0 (m + n) n (omega arith) (omega arith) in cc

@@ -5,9 +5,9 @@ use mathlib.Core.Path.{_≡_, refl, ap, _∙_}
 use Prim.Native.Nat.{ℕ, zero, suc, _+_, _-_, _<_, _≤_, min}
 use native.Mathlib.Numerals.{add-one}
 use native.Mathlib.Omega.{arith}
-use borrow.Author.Tests.{eq-eqb, ne-eqb, eqb-true, eqb-false, ltb-true, ltb-false}
-use lib.Dec.{eqb, ltb}
-use lib.ListN.{length, take, drop, getD, drop-of-length-le, length-append, length-take}
+use borrow.Author.Tests.{eq-eqb, ne-eqb, eqb-true}
+use lib.Dec.{eqb}
+use lib.ListN.{length, take, drop, getD, drop-of-length-le, length-append}
 use lib.Seq.{drop-cons}
 use Rattle.text.specs.Line.{before, starts}
 use Rattle.text.specs.Decimal.{digits}
@@ -47,30 +47,10 @@ found x (y ∷ l) h = by (eqb y x) refl h (found x l) where
   by true e h rest = eqb-true y x e
   by false e h rest = rest (omega arith)
 
--- and not before
-pub not-before : (x : ℕ) (l : List ℕ) (i : ℕ) → i < before x l → getD l i 0 ≡ x → ⊥
-unfolding before
-not-before x [] i h = absurd (let z : ⊥ = omega arith in z)
-not-before x (y ∷ l) i h = by (eqb y x) i refl h (not-before x l) where
-  by : (t : Bool) (i : ℕ) → eqb y x ≡ t → i < cond t 0 (suc (before x l)) → ((i : ℕ) → i < before x l → getD l i 0 ≡ x → ⊥) → getD (y ∷ l) i 0 ≡ x → ⊥
-  by true i e h rest = absurd (let z : ⊥ = omega arith in z)
-  by false zero e h rest = eqb-false y x e
-  by false (suc i) e h rest = rest i (omega arith)
-
--- the place that has it, with none before that has
-pub before-is : (x : ℕ) (l : List ℕ) (k : ℕ) → k < length l → getD l k 0 ≡ x → ((i : ℕ) → i < k → getD l i 0 ≡ x → ⊥) → before x l ≡ k
-unfolding before
-before-is x [] k h e n = absurd (let z : ⊥ = omega arith in z)
-before-is x (y ∷ l) zero h e n = simp (eq-eqb y x e)
-before-is x (y ∷ l) (suc k) h e n = simp (ne-eqb y x (n 0 (omega arith))) (ap suc (before-is x l k (omega arith) e (λ i j. n (suc i) (omega arith))))
-
 -- ---- a text without byte x
 
 abbrev pub Free : ℕ → List ℕ → Type 0
 Free x l = before x l ≡ length l
-
-pub free-at : (x : ℕ) (l : List ℕ) → Free x l → (i : ℕ) → i < length l → getD l i 0 ≡ x → ⊥
-free-at x l f i h = not-before x l i (omega arith)
 
 pub free-all : (x : ℕ) (l : List ℕ) → ((i : ℕ) → i < length l → getD l i 0 ≡ x → ⊥) → Free x l
 unfolding before
@@ -115,15 +95,6 @@ module _ (x : ℕ) where
   pub free-append : (a b : List ℕ) → Free x a → Free x b → Free x (a ++ b)
   free-append a b f g = before-past a b f ∙ omega (arith, length-append a b)
 
-  pub free-left : (a b : List ℕ) → Free x (a ++ b) → Free x a
-  free-left a b f = by (ltb (before x a) (length a)) refl where
-    by : (t : Bool) → ltb (before x a) (length a) ≡ t → Free x a
-    by true e = absurd (let z : ⊥ = omega (arith, before-in a b (ltb-true _ _ e), length-append a b, ltb-true (before x a) (length a) e) in z)
-    by false e = omega (arith, before-le x a, ltb-false (before x a) (length a) e)
-
-  pub free-right : (a b : List ℕ) → Free x (a ++ b) → Free x b
-  free-right a b f = omega (arith, length-append a b, before-past a b (free-left a b f))
-
   pub before-take : (m : ℕ) (l : List ℕ) → before x (take m l) ≡ min m (before x l)
   unfolding before
   before-take zero l = omega arith
@@ -132,10 +103,6 @@ module _ (x : ℕ) where
     by : (t : Bool) → before x (take m l) ≡ min m (before x l) → cond t 0 (suc (before x (take m l))) ≡ min (suc m) (cond t 0 (suc (before x l)))
     by true e = omega arith
     by false e = omega arith
-
-  -- what stands before it has none
-  pub free-before : (l : List ℕ) → Free x (take (before x l) l)
-  free-before l = omega (arith, before-take (before x l) l, length-take (before x l) l, before-le x l)
 
 -- ---- a key at the front, from a place on
 

@@ -7,7 +7,7 @@ use lib.ListN.{length, replicate, length-append, drop-of-length-le}
 use lib.Seq.{sets, sets-eq}
 use Rattle.layers.specs.Limits.{layersMost}
 use Rattle.header.specs.declared.Details.{Details}
-use Rattle.card.proofs.Runs.{sets-sets}
+use Rattle.header.proofs.Stores.{sets-sets}
 use Rattle.trace_card.specs.Boundary.{answerLength, numbers}
 
 -- a run as long as the slice is what stands there

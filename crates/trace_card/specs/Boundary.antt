@@ -1,6 +1,6 @@
 -- The C boundary (include/trace_card.h): what each function returns and leaves in the caller's memory, by the definitions of the calls.
 use mathlib.Core.Bool.{Bool, cond}
-use mathlib.Core.List.{List, [], _∷_, _++_}
+use mathlib.Core.List.{List, _∷_, _++_}
 use Prim.Native.Nat.{ℕ, _+_, _-_}
 use lib.Dec.{eqb}
 use lib.IntN.{ℤ}

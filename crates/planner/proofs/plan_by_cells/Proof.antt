@@ -2,7 +2,8 @@
 use mathlib.Core.Path.{_∙_}
 use borrow.Author.Needs.{needs}
 use denote.Ref.{now}
-use Rattle.planner.proofs.PlanCall.{refusing, cells-refused, header-right, cells-found}
+use Rattle.header.proofs.Refusing.{refusing, header-right}
+use Rattle.planner.proofs.PlanCall.{cells-refused, cells-found}
 use Rattle.planner.proofs.plan_by_cells.Statement.{statement}
 use Rattle.planner.proofs.plan_by_cells.Tie as tie
 

@@ -2,7 +2,8 @@
 use mathlib.Core.Path.{_∙_}
 use borrow.Author.Needs.{needs}
 use denote.Ref.{now}
-use Rattle.planner.proofs.PlanCall.{refusing, limit-refused, header-right, limit-low, limit-found}
+use Rattle.header.proofs.Refusing.{refusing, header-right}
+use Rattle.planner.proofs.PlanCall.{limit-refused, limit-low, limit-found}
 use Rattle.planner.proofs.plan_by_limit.Statement.{statement}
 use Rattle.planner.proofs.plan_by_limit.Tie as tie
 

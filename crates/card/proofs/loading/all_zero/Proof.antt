@@ -7,7 +7,7 @@ use borrow.Author.Tests.{eq-eqb, ne-eqb}
 use lib.Dec.{eqb}
 use lib.ListN.{getD}
 use denote.Ref.{now}
-use Rattle.card.proofs.ZeroBits.{all-yes, all-no}
+use Rattle.card.proofs.All.{all-by, all-no}
 use Rattle.card.proofs.loading.all_zero.Statement.{statement}
 use Rattle.card.proofs.loading.all_zero.Tie as tie
 
@@ -51,7 +51,7 @@ loop-again c = let l = c .before .before .before in
 returns-2 : tie.Need-returns-2 Inv-loop μ-loop
 returns-2 c = let l = c .before in
     let s = S l in
-    sym (all-yes (λ b. eqb (getD (now (s .args .bytes)) (s .args .from + b) 0) 0) (s .args .to - s .args .from)
+    sym (all-by (λ b. eqb (getD (now (s .args .bytes)) (s .args .from + b) 0) 0) (s .args .to - s .args .from)
     (λ b h. eq-eqb _ _ (l .loop .inv .1 (s .args .from + b) (omega arith) (omega arith))))
 
 pub all-zero-spec : {M : Type 1} → statement M

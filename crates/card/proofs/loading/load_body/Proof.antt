@@ -17,11 +17,13 @@ use Rattle.header.specs.declared.Header.{Header}
 use Rattle.header.specs.Header.{placesMost, cellBytes, cellPoints, cellsMost, planesOf, planeCells}
 use Rattle.header.specs.CardOrder.{cellsBefore, widthMost}
 use Rattle.header.proofs.Total.{plane-room, plane-most}
-use Rattle.header.proofs.CardOrder.{at-inside}
-use Rattle.header.proofs.Rightness.{Right, right-yes, layers-few, counts-few}
+use Rattle.header.proofs.Cells.{size-there, cells-there}
+use Rattle.header.proofs.Rightness.{Right, right-yes}
 use Rattle.card.specs.Reading.{badSlot}
 use Rattle.card.specs.Words.{wordsMost, blockStart, asked, slotWords}
-use Rattle.card.proofs.SlotOrder.{slot-in, zero-mod, from-first, from-next, cells-few, blocks-apart, blocks-room, start-is, start-next, size-inside}
+use Rattle.card.proofs.Blocks.{block-room}
+use Rattle.card.proofs.LayerPlanes.{few-planes}
+use Rattle.card.proofs.SlotOrder.{slot-in, zero-mod, from-first, from-next, cells-few, start-is, start-next}
 use Rattle.card.proofs.SlotTests.{fine-same, words-same, slot-length}
 use Rattle.card.proofs.WordSums.{bare, bare-before, bare-read, bad-is, none-is, fine-slot, Partly, partly-none, partly-small, partly-all, partly-next}
 use Rattle.card.proofs.loading.load_body.Statement.{statement}
@@ -71,7 +73,7 @@ shallow : (s : tie.Start Inv-loop μ-loop) → sh s .levels ≤ levelsMost
 shallow s = accepted-yes (sh s) (right s .shape) .shallow
 
 few : (s : tie.Start Inv-loop μ-loop) (j : ℕ) → j < K s → planesOf (H s) j ≤ placesMost
-few s j l = counts-few (right s) j (omega (arith, layers-few (right s)))
+few s = few-planes (right s)
 
 none : (s : tie.Start Inv-loop μ-loop) → Partly (H s) (s .args .at) (now (s .args .bytes)) (plan s) 0 (now (s .args .words))
 none s = partly-none (H s) (s .args .at) (now (s .args .bytes)) (plan s) _ (now (s .args .words)) (s .pre .0 .2) refl
@@ -99,10 +101,10 @@ abbrev L : tie.After-block Inv-loop μ-loop → tie.At-loop Inv-loop μ-loop
 L a = a .before .before .before .before
 
 size-is : (a : tie.After-block Inv-loop μ-loop) → a .before .before .layer-size .result ≡ layerSize (sh (S (L a))) (k (L a))
-size-is a = a .before .before .layer-size .ensures ∙ size-inside (sh (S (L a))) (right (S (L a)) .shape) (k (L a)) (inside (I a) .1)
+size-is a = a .before .before .layer-size .ensures ∙ size-there (sh (S (L a))) (right (S (L a)) .shape) (k (L a)) (inside (I a) .1)
 
 cells-are : (a : tie.After-block Inv-loop μ-loop) → a .before .plane-cells .result ≡ planeCells (sh (S (L a))) (k (L a))
-cells-are a = a .before .plane-cells .ensures ∙ at-inside (sh (S (L a))) (right (S (L a)) .shape) (k (L a)) (inside (I a) .1)
+cells-are a = a .before .plane-cells .ensures ∙ cells-there (sh (S (L a))) (right (S (L a)) .shape) (k (L a)) (inside (I a) .1)
 
 block-is : (a : tie.After-block Inv-loop μ-loop) → a .block .result ≡ blockStart (sh (S (L a))) (k (L a))
 block-is a = a .block .ensures ∙ start-is (sh (S (L a))) (k (L a)) (L a .loop .start) (L a .loop .inv .2)
@@ -110,7 +112,7 @@ block-is a = a .block .ensures ∙ start-is (sh (S (L a))) (k (L a)) (L a .loop 
 room : (a : tie.After-block Inv-loop μ-loop) → a .block .result + cellPoints * a .before .plane-cells .result ≤ wordsMost
 room a =
     let s = S (L a) in
-    omega (arith, block-is a, cells-are a, blocks-apart (sh s) (k (L a)) (K s) (inside (I a) .1), blocks-room (sh s) (right s .shape))
+    omega (arith, block-is a, cells-are a, block-room (sh s) (right s .shape) (k (L a)) (inside (I a) .1))
 
 narrow : (a : tie.After-block Inv-loop μ-loop) → a .before .plane-cells .result ≤ widthMost
 narrow a = let s = S (L a) in omega (arith, cells-are a, plane-most (sh s) (right s .shape) (k (L a)))

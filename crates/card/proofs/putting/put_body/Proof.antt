@@ -9,8 +9,8 @@ use denote.Ref.{now}
 use Rattle.layers.specs.declared.Shape.{Shape}
 use Rattle.layers.specs.Sheet.{layers}
 use Rattle.header.specs.Header.{placesMost}
+use Rattle.header.proofs.Stores.{sets-sets}
 use Rattle.card.specs.Words.{flatPlace, flatDown}
-use Rattle.card.proofs.Runs.{sets-sets}
 use Rattle.card.proofs.FlatPlanes.{down-none, down-some}
 use Rattle.card.proofs.putting.put_body.Statement.{statement}
 use Rattle.card.proofs.putting.put_body.Tie as tie

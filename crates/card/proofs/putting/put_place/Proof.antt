@@ -11,9 +11,10 @@ use Rattle.layers.specs.Limits.{levelsMost}
 use Rattle.layers.specs.Sheet.{layers}
 use Rattle.layers.proofs.Accepting.{accepted-yes}
 use Rattle.header.specs.Header.{cellPoints, planeCells}
-use Rattle.header.proofs.CardOrder.{at-inside}
+use Rattle.header.proofs.Cells.{cells-there}
 use Rattle.card.specs.Words.{wordsMost, blockStart, flatPlace}
-use Rattle.card.proofs.FlatPlanes.{place-room, Laid, laid-none, laid-yes, laid-no, laid-all, start-none, start-more, start-most}
+use Rattle.card.proofs.Blocks.{block-none, block-next, block-room}
+use Rattle.card.proofs.FlatPlanes.{place-room, Laid, laid-none, laid-yes, laid-no, laid-all}
 use Rattle.card.proofs.putting.put_place.Statement.{statement}
 use Rattle.card.proofs.putting.put_place.Tie as tie
 
@@ -33,16 +34,15 @@ shallow s = accepted-yes (s .args .shape) (s .pre .0 .0) .shallow
 -- layer k's cells, and the words up to its end
 cells-is : (a : tie.After-plane-cells Inv-loop μ-loop) → a .plane-cells .result ≡ planeCells (S (a .before .before) .args .shape) (a .before .before .loop .k)
 cells-is a = let l = a .before .before in
-    a .plane-cells .ensures ∙ at-inside (S l .args .shape) (S l .pre .0 .0) (l .loop .k) (omega arith)
+    a .plane-cells .ensures ∙ cells-there (S l .args .shape) (S l .pre .0 .0) (l .loop .k) (omega arith)
 
 words-room : (a : tie.After-plane-cells Inv-loop μ-loop) → a .before .before .loop .start + cellPoints * a .plane-cells .result ≤ wordsMost
 words-room a = let l = a .before .before in
-    let inside : l .loop .k + 1 ≤ layers (S l .args .shape) = omega arith in
-    omega (arith, cells-is a, l .loop .inv .1, start-more (S l .args .shape) (l .loop .k), start-most (S l .args .shape) (S l .pre .0 .0) (l .loop .k + 1) inside)
+    omega (arith, cells-is a, l .loop .inv .1, block-room (S l .args .shape) (S l .pre .0 .0) (l .loop .k) (omega arith))
 
 same : (l : tie.At-loop Inv-loop μ-loop) → length (l .loop .out) ≡ length (now (S l .args .out))
 same l = let s = S l in
-    ap length (l .loop .inv .2 .1) ∙ length-sets (now (s .args .out)) (s .args .at) (flatPlace (s .args .shape) (s .args .t3) (now (s .args .words)) (s .args .p) (l .loop .k))
+    ap length (l .loop .inv .2 .stands) ∙ length-sets (now (s .args .out)) (s .args .at) (flatPlace (s .args .shape) (s .args .t3) (now (s .args .words)) (s .args .p) (l .loop .k))
 
 mul-layers : tie.Need-mul-layers Inv-loop μ-loop
 mul-layers c = omega (arith, shallow (c .before .before .before))
@@ -52,7 +52,7 @@ add-layers c = omega (arith, shallow (c .before .before .before))
 
 loop-holds : tie.Need-loop-holds Inv-loop μ-loop
 loop-holds c = let s = c .before .before .before in
-    (omega arith, omega (arith, start-none (s .args .shape)), laid-none (s .args .shape) (s .args .t3) (now (s .args .words)) (s .args .p) (now (s .args .out)) (s .args .at))
+    (omega arith, omega (arith, block-none (s .args .shape)), laid-none (s .args .shape) (s .args .t3) (now (s .args .words)) (s .args .p) (now (s .args .out)) (s .args .at))
 
 plane-cells-requires : tie.Need-plane-cells-requires Inv-loop μ-loop
 plane-cells-requires c κs = search needs
@@ -72,7 +72,7 @@ put-plane-requires c κs = let a = c .before .before in
       s .pre .0 .1,
       omega (arith, words-room a),
       omega (arith, words-room a, s .pre .0 .2),
-      omega (arith, cells-is a, same l, l .loop .inv .2 .0, place-room (s .args .shape) (s .args .t3) (now (s .args .words)) (s .args .p) (l .loop .k) inside has, s .pre .1),
+      omega (arith, cells-is a, same l, l .loop .inv .2 .ends, place-room (s .args .shape) (s .args .t3) (now (s .args .words)) (s .args .p) (l .loop .k) inside has, s .pre .1),
     )
 
 mul-start : tie.Need-mul-start Inv-loop μ-loop
@@ -93,7 +93,7 @@ loop-again c = let a = c .before in
     let s = S l in
     let i = l .loop .inv in (
       omega arith,
-      omega (arith, cells-is a, i .1, start-more (s .args .shape) (l .loop .k)),
+      omega (arith, cells-is a, i .1, block-next (s .args .shape) (l .loop .k)),
       ⊎-elim
           (λ w.
           laid-yes (s .args .shape) (s .args .t3) (now (s .args .words)) (s .args .p) (now (s .args .out)) (s .args .at) (l .loop .k) (l .loop .start) (a .plane-cells .result) (l .loop .to) (c .if1 .to) (l .loop .out) (c .if1 .out)
@@ -110,7 +110,8 @@ same-length c = same (c .before)
 returns : tie.Need-returns Inv-loop μ-loop
 returns c = let l = c .before in
     let s = S l in
-    laid-all (s .args .shape) (s .args .t3) (now (s .args .words)) (s .args .p) (now (s .args .out)) (s .args .at) (l .loop .k) (l .loop .to) (l .loop .out) (omega arith) (l .loop .inv .2)
+    let all = laid-all (s .args .shape) (s .args .t3) (now (s .args .words)) (s .args .p) (now (s .args .out)) (s .args .at) (l .loop .k) (l .loop .to) (l .loop .out) (omega arith) (l .loop .inv .2) in
+    (all .ends, all .stands)
 
 pub put-place-spec : {M : Type 1} → statement M
 put-place-spec =

@@ -8,7 +8,7 @@ use lib.Seq.{sets, length-sets}
 use denote.Ref.{now}
 use Rattle.header.specs.Header.{cellBytes}
 use Rattle.card.specs.Words.{flatPlane}
-use Rattle.card.proofs.Runs.{sets-next, sets-whole}
+use Rattle.header.proofs.Stores.{sets-next, sets-whole}
 use Rattle.card.proofs.FlatPlanes.{flat-length, flat-byte}
 use Rattle.card.proofs.putting.put_plane.Statement.{statement}
 use Rattle.card.proofs.putting.put_plane.Tie as tie

@@ -4,7 +4,8 @@ use borrow.Author.Needs.{needs}
 use denote.Ref.{now}
 use Rattle.card.specs.declared.Reached.{Reached}
 use Rattle.card.specs.Reading.{told}
-use Rattle.card.proofs.ReadCall.{refusing, read-refused, header-right, header-here, read-on}
+use Rattle.header.proofs.Refusing.{refusing, header-right}
+use Rattle.card.proofs.ReadCall.{read-refused, header-here, read-on}
 use Rattle.card.proofs.reading.read.Statement.{statement}
 use Rattle.card.proofs.reading.read.Tie as tie
 

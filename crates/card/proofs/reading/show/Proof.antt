@@ -7,7 +7,8 @@ use Rattle.header.specs.declared.Plan.{Plan}
 use Rattle.header.specs.CardOrder.{wholePlan}
 use Rattle.card.specs.declared.Reached.{Reached}
 use Rattle.card.specs.Reading.{told, readOpened}
-use Rattle.card.proofs.ReadCall.{refusing, whole-is, show-refused, header-right, header-here, show-on}
+use Rattle.header.proofs.Refusing.{refusing, header-right}
+use Rattle.card.proofs.ReadCall.{whole-is, show-refused, header-here, show-on}
 use Rattle.card.proofs.reading.show.Statement.{statement}
 use Rattle.card.proofs.reading.show.Tie as tie
 

@@ -31,8 +31,7 @@ use Rattle.layers.proofs.Places.{place-in}
 use Rattle.header.specs.Header.{placesMost}
 use Rattle.header.proofs.Total.{plane-room}
 use Rattle.card.specs.Words.{bitAt}
-use Rattle.card.proofs.Blocks.{grid-here}
-use Rattle.card.proofs.Walk.{in-at}
+use Rattle.card.proofs.Walk.{grid-here, in-at}
 use Rattle.card.proofs.ZeroBits.{bit-most}
 use Rattle.card.proofs.Weights.{weight-small, digit-small}
 use Rattle.card.proofs.Adds.{Adding, adding-none, adding-skip, adding-more, adding-all, place-most, held-at}
@@ -93,7 +92,7 @@ sheet : (t : T) → Sheet (Sh t)
 sheet t = accepted-yes (Sh t) (yes t)
 
 grid : (t : T) → G t ≡ gridOf (Sh t .levels) (K t)
-grid t = t .before .layer-grid .ensures ∙ grid-here (Sh t) (yes t) (K t) (A t .pre .0 .1)
+grid t = t .before .layer-grid .ensures ∙ grid-here (Sh t) (K t) (yes t) (A t .pre .0 .1)
 
 good : (t : T) → Good (G t)
 good t =

@@ -1,8 +1,8 @@
 -- The loop's invariant: every coefficient before the cursor is held. Where one is not, the test fails at it; behind the loop it passes at each.
 use mathlib.Core.Path.{_≡_, refl, sym}
-use mathlib.Core.Bool.{true, false}
+use mathlib.Core.Bool.{true}
 use mathlib.Core.List.{List}
-use Prim.Native.Nat.{ℕ, _-_, _<_, _≤_}
+use Prim.Native.Nat.{ℕ, _-_, _<_}
 use native.Mathlib.Decide.{ℕ-discrete}
 use native.Mathlib.Omega.{arith}
 use lib.IntN.{ℤ}
@@ -14,11 +14,11 @@ use Rattle.integers.proofs.Bools.{not-yes}
 use Rattle.integers.proofs.Diff.{Diff, lit, neg-lit}
 use Rattle.integers.proofs.Machine.{told, lt-test, not-lt-test}
 use Rattle.digits.specs.Digits.{holds}
-use Rattle.digits.proofs.Range.{Holds, range-23, holds-yes, holds-by}
+use Rattle.digits.proofs.Range.{range-23, holds-yes, holds-by}
 use Rattle.layers.specs.Lists.{at}
 use Rattle.header.specs.Header.{placesMost}
 use Rattle.card.specs.Refining.{allHeld}
-use Rattle.card.proofs.ZeroBits.{all-yes, all-no}
+use Rattle.card.proofs.All.{all-by, all-no}
 use Rattle.card.proofs.refining.all_held.Statement.{statement}
 use Rattle.card.proofs.refining.all_held.Tie as tie
 
@@ -81,7 +81,7 @@ returns-3 : tie.Need-returns-3 Inv-loop μ-loop
 unfolding allHeld
 returns-3 c =
     let qs = now (c .before .before .args .coefficients) in
-    sym (all-yes (λ j. holds placesMost (at qs j)) (length qs) (λ i h. c .before .loop .inv .1 i (omega (arith, c .loop-test .left))))
+    sym (all-by (λ j. holds placesMost (at qs j)) (length qs) (λ i h. c .before .loop .inv .1 i (omega (arith, c .loop-test .left))))
 
 pub all-held-spec : {M : Type 1} → statement M
 all-held-spec =

@@ -4,7 +4,8 @@ use borrow.Author.Needs.{needs}
 use denote.Ref.{now}
 use Rattle.card.specs.declared.Reached.{Reached}
 use Rattle.card.specs.Reading.{told}
-use Rattle.card.proofs.ReadCall.{refusing, header-right, header-here}
+use Rattle.header.proofs.Refusing.{refusing, header-right}
+use Rattle.card.proofs.ReadCall.{header-here}
 use Rattle.card.proofs.RefineCall.{refine-refused, refine-on}
 use Rattle.card.proofs.refining.refine.Statement.{statement}
 use Rattle.card.proofs.refining.refine.Tie as tie

@@ -1,15 +1,12 @@
 -- The plane stands where the header's order says, inside the bytes; by whether it is fine it is refused, or its digits are added, the values rebuilt, and the plan with it has its figure.
-use mathlib.Core.Path.{_≡_, sym, ap, _∙_}
+use mathlib.Core.Path.{_≡_, ap, _∙_}
 use Prim.Native.Nat.{ℕ, suc, _+_, _*_, _-_, _<_, _≤_}
 use native.Mathlib.Omega.{arith}
 use borrow.Author.Needs.{needs}
-use borrow.Author.Tests.{not-true, not-false, eqb-true}
+use borrow.Author.Tests.{not-true, not-false}
 use denote.Ref.{now}
-use lib.Dec.{eqb}
-use lib.ListN.{length}
-use Rattle.integers.proofs.Bools.{and-left}
 use Rattle.layers.specs.Limits.{layersMost}
-use Rattle.layers.specs.Sheet.{points, layerSize}
+use Rattle.layers.specs.Sheet.{layerSize}
 use Rattle.header.specs.Header.{placesMost, cellBytes, planesOf, planeCells}
 use Rattle.header.specs.Plan.{loads}
 use Rattle.header.specs.CardOrder.{cellsBefore}
@@ -18,7 +15,9 @@ use Rattle.header.proofs.Rightness.{right-yes}
 use Rattle.header.proofs.Total.{plane-room, plane-most}
 use Rattle.card.specs.declared.Reached.{Reached}
 use Rattle.card.specs.Reading.{told, fine}
-use Rattle.card.proofs.RefineCall.{layer-few, few, before-is, refine-done, refine-bad, fine-is}
+use Rattle.card.proofs.LayerPlanes.{few-planes}
+use Rattle.card.proofs.ReadCall.{good-lengths}
+use Rattle.card.proofs.RefineCall.{layer-few, before-is, refine-done, refine-bad, fine-is}
 use Rattle.card.proofs.refining.refine_plane.Statement.{statement}
 use Rattle.card.proofs.refining.refine_plane.Tie as tie
 
@@ -33,7 +32,7 @@ layer-low : (s : tie.Start) → s .args .layer < layersMost
 layer-low s = layer-few (s .args .header) (s .pre .0 .0) (s .args .plan) (s .args .layer) (s .pre .0 .2) (s .pre .1 .0 .1)
 
 counts-low : (s : tie.Start) → planesOf (s .args .header) (s .args .layer) ≤ placesMost
-counts-low s = few (s .args .header) (s .pre .0 .0) (s .args .plan) (s .args .layer) (s .pre .0 .2) (s .pre .1 .0 .1)
+counts-low s = few-planes (right-yes (s .args .header) (s .pre .0 .0)) (s .args .layer) (s .pre .0 .2)
 
 -- what the calls answer: where the plane stands, its cells and its points
 before-at : (c : tie.After-cells-before) → (let s = c .before .before .before .before .before .before in c .cells-before .result ≡ cellsBefore (s .args .header) (s .args .layer) (Next s))
@@ -144,13 +143,10 @@ returns c =
 add-digits-requires : tie.Need-add-digits-requires
 add-digits-requires c κs =
     let z = c .before .before .before in
-    let s = S z in
-    let n = points (s .args .header .shape) in
-    let a = eqb (length (now (s .args .coefficients))) n in
-    let b = eqb (length (now (s .args .values))) n in (
+    let s = S z in (
       (right-yes (s .args .header) (s .pre .0 .0) .shape, s .pre .0 .2, omega (arith, counts-low s, s .pre .1 .0 .1)),
       (
-        eqb-true (length (now (s .args .coefficients))) n (and-left a b (s .pre .0 .3)),
+        good-lengths (now (s .args .coefficients)) (now (s .args .values)) (s .args .header) (s .pre .0 .3) .0,
         s .pre .1 .0 .2,
         omega (arith, before-at (z .before), s .pre .1 .1),
       ),

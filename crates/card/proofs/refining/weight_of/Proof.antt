@@ -4,7 +4,7 @@ use Prim.Native.Nat.{ℕ, _*_, _%_, _^_, _<_, _≤_}
 use native.Mathlib.Omega.{arith}
 use lib.Dec.{lit<}
 use lib.Pow.{shl-exact, pow-mono}
-use Rattle.integers.proofs.Diff.{#, lit, via, ⊟, _⊖_}
+use Rattle.integers.proofs.Diff.{lit, via, ⊟, _⊖_}
 use Rattle.integers.proofs.Order.{eq-by}
 use Rattle.integers.proofs.Machine.{bits, cast, sfits-by}
 use Rattle.card.proofs.Weights.{weight-is}

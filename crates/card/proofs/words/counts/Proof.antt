@@ -9,8 +9,9 @@ use borrow.Author.Needs.{needs}
 use Rattle.layers.specs.declared.Shape.{Shape}
 use Rattle.layers.specs.Sheet.{accepted, layers, layerSize}
 use Rattle.layers.proofs.Accepting.{Sheet, accepted-yes}
+use Rattle.header.proofs.Cells.{size-there, cells-there}
 use Rattle.card.specs.Words.{blockStart, wordsMost, countOf}
-use Rattle.card.proofs.Blocks.{block-none, block-next, cells-here, size-here, layer-room, block-room}
+use Rattle.card.proofs.Blocks.{block-none, block-next, layer-room, block-room}
 use Rattle.card.proofs.Counting.{CountedTo, counted-none, counted-more, counted-all}
 use Rattle.card.proofs.words.counts.Statement.{statement}
 use Rattle.card.proofs.words.counts.Tie as tie
@@ -56,7 +57,7 @@ layer-size-requires c κs = search needs
 size-is : (c : tie.After-layer-size Inv-loop μ-loop) → c .layer-size .result ≡ layerSize (Sh (c .before .before)) (c .before .before .loop .k)
 size-is c =
     let l = c .before .before in
-    c .layer-size .ensures ∙ size-here (Sh l) (yes l) (l .loop .k) (c .before .loop-test .taken)
+    c .layer-size .ensures ∙ size-there (Sh l) (yes l) (l .loop .k) (c .before .loop-test .taken)
 
 count-of-requires : tie.Need-count-of-requires Inv-loop μ-loop
 count-of-requires c κs =
@@ -92,7 +93,7 @@ cells c =
     let l = Lp c in
     let k = l .loop .k in
     let h = In c .loop-test .taken in
-    omega (arith, l .loop .inv .1, c .plane-cells .ensures, cells-here (Sh l) (yes l) k h, block-next (Sh l) k, block-room (Sh l) (yes l) k h)
+    omega (arith, l .loop .inv .1, c .plane-cells .ensures, cells-there (Sh l) (yes l) k h, block-next (Sh l) k, block-room (Sh l) (yes l) k h)
 
 mul-start : tie.Need-mul-start Inv-loop μ-loop
 mul-start c = omega (arith, cells c .1)

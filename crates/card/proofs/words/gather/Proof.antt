@@ -12,8 +12,9 @@ use Rattle.layers.specs.declared.Shape.{Shape}
 use Rattle.layers.specs.Lists.{at, tabulate}
 use Rattle.layers.specs.Sheet.{accepted, layers, layerSize, pointOf}
 use Rattle.layers.proofs.Accepting.{Sheet, accepted-yes}
+use Rattle.header.proofs.Cells.{cells-there}
 use Rattle.card.specs.Words.{wordOf, blockStart, wordsMost}
-use Rattle.card.proofs.Blocks.{block-none, block-next, cells-here, layer-room, block-room}
+use Rattle.card.proofs.Blocks.{block-none, block-next, layer-room, block-room}
 use Rattle.card.proofs.Gathers.{GatheredTo, gathered-none, gathered-more, gathered-all}
 use Rattle.card.proofs.words.gather.Statement.{statement}
 use Rattle.card.proofs.words.gather.Tie as tie
@@ -76,7 +77,7 @@ cells c =
     let l = Lp c in
     let k = l .loop .k in
     let h = In c .loop-test .taken in
-    omega (arith, l .loop .inv .1, c .plane-cells .ensures, cells-here (Sh l) (yes l) k h, block-next (Sh l) k, block-room (Sh l) (yes l) k h)
+    omega (arith, l .loop .inv .1, c .plane-cells .ensures, cells-there (Sh l) (yes l) k h, block-next (Sh l) k, block-room (Sh l) (yes l) k h)
 
 mul-start : tie.Need-mul-start Inv-loop μ-loop
 mul-start c = omega (arith, cells c .1)

@@ -22,8 +22,7 @@ use Rattle.layers.proofs.Fits.{spacing-some, spacing-small, rows-small, cols-sm
 use Rattle.layers.proofs.Grids.{Good, grid-good, out-top, out-rows, out-left, out-cols, inside}
 use Rattle.layers.proofs.Places.{place-in}
 use Rattle.card.specs.Words.{wordOf}
-use Rattle.card.proofs.Blocks.{grid-here}
-use Rattle.card.proofs.Walk.{in-at, Gathering, gathering-none, gathering-skip, gathering-more, gathering-same, gathering-all}
+use Rattle.card.proofs.Walk.{grid-here, in-at, Gathering, gathering-none, gathering-skip, gathering-more, gathering-same, gathering-all}
 use Rattle.card.proofs.words.gather_layer.Statement.{statement}
 use Rattle.card.proofs.words.gather_layer.Tie as tie
 
@@ -81,7 +80,7 @@ sheet : (t : T) → Sheet (Sh t)
 sheet t = accepted-yes (Sh t) (yes t)
 
 grid : (t : T) → G t ≡ gridOf (Sh t .levels) (K t)
-grid t = t .layer-grid .ensures ∙ grid-here (Sh t) (yes t) (K t) (A t .pre .0 .1)
+grid t = t .layer-grid .ensures ∙ grid-here (Sh t) (K t) (yes t) (A t .pre .0 .1)
 
 good : (t : T) → Good (G t)
 good t =

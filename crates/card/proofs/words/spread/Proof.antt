@@ -9,8 +9,9 @@ use borrow.Author.Needs.{needs}
 use Rattle.layers.specs.declared.Shape.{Shape}
 use Rattle.layers.specs.Sheet.{accepted, layers}
 use Rattle.layers.proofs.Accepting.{Sheet, accepted-yes}
+use Rattle.header.proofs.Cells.{cells-there}
 use Rattle.card.specs.Words.{blockStart, wordsMost, spreadOver}
-use Rattle.card.proofs.Blocks.{block-none, block-next, cells-here, layer-room, block-room}
+use Rattle.card.proofs.Blocks.{block-none, block-next, layer-room, block-room}
 use Rattle.card.proofs.Spreads.{SpreadTo, spread-none, spread-more, spread-all}
 use Rattle.card.proofs.words.spread.Statement.{statement}
 use Rattle.card.proofs.words.spread.Tie as tie
@@ -74,7 +75,7 @@ cells c =
     let l = Lp c in
     let k = l .loop .k in
     let h = In c .loop-test .taken in
-    omega (arith, l .loop .inv .1, c .plane-cells .ensures, cells-here (Sh l) (yes l) k h, block-next (Sh l) k, block-room (Sh l) (yes l) k h)
+    omega (arith, l .loop .inv .1, c .plane-cells .ensures, cells-there (Sh l) (yes l) k h, block-next (Sh l) k, block-room (Sh l) (yes l) k h)
 
 mul-start : tie.Need-mul-start Inv-loop μ-loop
 mul-start c = omega (arith, cells c .1)

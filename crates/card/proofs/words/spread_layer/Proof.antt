@@ -25,8 +25,7 @@ use Rattle.layers.proofs.Accepting.{Sheet, accepted-yes}
 use Rattle.layers.proofs.Fits.{spacing-some, spacing-small, rows-small, cols-small}
 use Rattle.layers.proofs.Grids.{Good, grid-good, out-top, out-rows, out-left, out-cols, inside}
 use Rattle.layers.proofs.Places.{place-in}
-use Rattle.card.proofs.Blocks.{grid-here}
-use Rattle.card.proofs.Walk.{in-at, Spreading, spreading-none, spreading-skip, spreading-more, spreading-all}
+use Rattle.card.proofs.Walk.{grid-here, in-at, Spreading, spreading-none, spreading-skip, spreading-more, spreading-all}
 use Rattle.card.proofs.words.spread_layer.Statement.{statement}
 use Rattle.card.proofs.words.spread_layer.Tie as tie
 
@@ -81,7 +80,7 @@ sheet : (t : T) → Sheet (Sh t)
 sheet t = accepted-yes (Sh t) (yes t)
 
 grid : (t : T) → G t ≡ gridOf (Sh t .levels) (K t)
-grid t = t .layer-grid .ensures ∙ grid-here (Sh t) (yes t) (K t) (A t .pre .0 .1)
+grid t = t .layer-grid .ensures ∙ grid-here (Sh t) (K t) (yes t) (A t .pre .0 .1)
 
 good : (t : T) → Good (G t)
 good t =

@@ -6,7 +6,7 @@ use native.Mathlib.Omega.{arith}
 use lib.ListN.{length, getD, set, take}
 use lib.Seq.{sets, length-sets}
 use denote.Ref.{now}
-use Rattle.card.proofs.Runs.{sets-next}
+use Rattle.header.proofs.Stores.{sets-next}
 use Rattle.card.proofs.writing.put_text.Statement.{statement}
 use Rattle.card.proofs.writing.put_text.Tie as tie
 

@@ -9,7 +9,7 @@ use borrow.Author.Needs.{needs}
 use Rattle.layers.specs.Limits.{layersMost}
 use Rattle.text.proofs.Digits.{length-20}
 use Rattle.header.specs.Header.{listText}
-use Rattle.header.proofs.Stores.{list-one, list-more}
+use Rattle.header.proofs.ListText.{list-one, list-more}
 use Rattle.display.specs.declared.Piece.{Piece}
 use Rattle.display.specs.Shown as S
 use Rattle.display.specs.Shown.{Extends}

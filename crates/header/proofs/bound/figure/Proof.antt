@@ -1,38 +1,18 @@
 -- By what `open` answers: any refusal is passed on, and behind an accepted header the first place over decides between a refusal and the figure.
-use mathlib.Core.List.{[], _∷_}
-use mathlib.Core.Path.{_≡_, refl, sym, ap, _∙_}
+use mathlib.Core.Path.{_≡_, ap, _∙_}
 use Prim.Native.Nat.{ℕ}
 use native.Mathlib.Omega.{arith}
-use denote.Enum.Declared.{tagOf}
-use types.Run.{OneOf, miss}
 use borrow.Author.Needs.{needs}
 use Rattle.layers.specs.Limits.{layersMost}
-use Rattle.header.specs.declared.Refusal.{Refusal}
-use Rattle.header.specs.declared.Refusal.the-variants as R
-use Rattle.header.specs.Refusals.{refusal, detailsOf}
+use Rattle.header.specs.Refusals.{refusal}
 use Rattle.header.specs.Header.{planesOf}
 use Rattle.header.specs.Plan.{firstOver, loads}
-use Rattle.header.specs.Figure.{Bounding, noBound}
+use Rattle.header.specs.Figure.{noBound}
 use Rattle.header.proofs.Over.{over-le}
-use Rattle.header.proofs.FigureCall.{opened-header, bound-refused, bound-over, bound-is}
-use Rattle.header.proofs.Refusal.{the-type}
+use Rattle.header.proofs.FigureCall.{bound-refused, bound-over, bound-is}
+use Rattle.header.proofs.Refusing.{refusing, header-right}
 use Rattle.header.proofs.bound.figure.Statement.{statement}
 use Rattle.header.proofs.bound.figure.Tie as tie
-
--- every variant but the first is a refusal
-refusing : (r : Refusal) → OneOf (1 ∷ 2 ∷ 3 ∷ 4 ∷ 5 ∷ 6 ∷ 7 ∷ 8 ∷ 9 ∷ 10 ∷ 11 ∷ []) (tagOf the-type r) → detailsOf r .number ≡ 0 → ⊥
-refusing R.Accepted k e = miss (1 ∷ 2 ∷ 3 ∷ 4 ∷ 5 ∷ 6 ∷ 7 ∷ 8 ∷ 9 ∷ 10 ∷ 11 ∷ []) 0 tt k
-refusing R.BadSize k e = omega arith
-refusing R.BadSettings k e = omega arith
-refusing R.BadLengths k e = omega arith
-refusing (R.BadSample row col) k e = omega arith
-refusing R.HeaderCut k e = omega arith
-refusing (R.BadLine line) k e = omega arith
-refusing R.TrailingBytes k e = omega arith
-refusing (R.BadPlane layer) k e = omega arith
-refusing (R.BadPlan place) k e = omega arith
-refusing R.LimitBelowStep k e = omega arith
-refusing R.BadCoefficient k e = omega arith
 
 abbrev E : tie.After-first-over → tie.After-enum-told
 E c = c .before .before .before .before
@@ -68,7 +48,7 @@ figure-of-requires : tie.Need-figure-of-requires
 figure-of-requires c κs =
     let f = c .before in
     let o = O f in
-    (opened-header (S o .args .bytes .now) (S o .args .plan) (o .«open» .result) (o .«open» .ensures) (E f .enum-told .given .1), none-is c)
+    (header-right (S o .args .bytes .now) (o .«open» .result) (o .«open» .ensures) (E f .enum-told .given .1), none-is c)
 
 returns-2 : tie.Need-returns-2
 returns-2 c =

@@ -11,7 +11,7 @@ use borrow.Author.Needs.{needs}
 use Rattle.text.specs.Line.{starts}
 use Rattle.text.proofs.Search.{starts-length}
 use Rattle.header.specs.Header.{placesMost, ascii, asciiFrom}
-use Rattle.header.proofs.Cells.{cells-of-most}
+use Rattle.header.proofs.Total.{cells-most}
 use Rattle.header.proofs.Taking.{starts-as}
 use Rattle.header.proofs.Counting.{counts-few, planes-short, planes-other, planes-wrong, planes-right}
 use Rattle.header.proofs.opening.open_planes.Statement.{statement}
@@ -126,7 +126,7 @@ add-open-cells c = search needs
 open-cells-requires : tie.Need-open-cells-requires
 open-cells-requires c κs =
     let r = K (c .before .before .before) in
-    omega (arith, c .cells-of .ensures, cells-of-most (A (F r) .args .shape) (A (F r) .pre) (r .read-counts .result .planes) (few r))
+    omega (arith, c .cells-of .ensures, cells-most (A (F r) .args .shape) (A (F r) .pre) (r .read-counts .result .planes) (λ k _. few r k))
 
 returns-4 : tie.Need-returns-4
 unfolding asciiFrom

@@ -1,23 +1,22 @@
 -- Each test is one of `cellsBeforeIn`; then the cells up to the plane's end, less its own, are those before it (`cells-through`).
-use Prim.Native.Nat.{ℕ, _+_, _<_, _≤_}
+use Prim.Native.Nat.{ℕ, _+_, _<_}
 use mathlib.Core.Bool.{true, false}
 use mathlib.Core.List.{List}
 use mathlib.Core.Path.{_≡_, sym, ap, _∙_}
 use native.Mathlib.Decide.{decLt}
 use native.Mathlib.Omega.{arith}
-use lib.Dec.{ltb}
 use lib.ListN.{length, getD}
 use borrow.Author.Needs.{needs}
 use borrow.Author.Tests.{not-true, not-false, lt-ltb, le-ltb}
 use Rattle.layers.specs.Limits.{layersMost}
-use Rattle.layers.specs.Lists.{tabulate}
 use Rattle.layers.specs.Sheet.{layers}
 use Rattle.layers.proofs.Lists.{getD-tabulate}
-use Rattle.header.specs.Header.{planesOf, planeCells, cellsAt}
+use Rattle.header.specs.Header.{planeCells, cellsAt}
 use Rattle.header.specs.Opening.{right}
 use Rattle.header.specs.CardOrder.{cellsBefore, cellsThrough, cellsBeforeIn}
 use Rattle.header.proofs.Rightness.{Right, right-yes, all-few, counts-past}
-use Rattle.header.proofs.CardOrder.{at-inside, cells-through}
+use Rattle.header.proofs.Cells.{cells-there}
+use Rattle.header.proofs.CardOrder.{cells-through}
 use Rattle.header.proofs.Through.{Small, width-most}
 use Rattle.header.proofs.planes.cells_before.Statement.{statement}
 use Rattle.header.proofs.planes.cells_before.Tie as tie
@@ -63,7 +62,7 @@ own-is c =
     let k = S e .args .layer in
     ap (λ (ws : List ℕ). getD ws k 0) (c .before .widths-of .ensures)
     ∙ getD-tabulate layersMost (cellsAt (h .shape)) k 0 (c .before .before .before .if2 .left)
-    ∙ at-inside (h .shape) (rightly e .shape) k (inside (c .before .before))
+    ∙ cells-there (h .shape) (rightly e .shape) k (inside (c .before .before))
 
 is-right-requires : tie.Need-is-right-requires
 is-right-requires c κs = search needs
@@ -94,8 +93,8 @@ cells-through-requires c κs =
     let e = E (c .before) in
     let s = S e in
     let small : Small (c .widths-of .result) (s .args .header .planes) =
-    λ j. (rw (c .widths-of .ensures) (width-most (s .args .header .shape) (rightly e .shape) j), all-few (rightly e) (long s) j) in
-    (c .before .before .if2 .left, small, omega (arith, c .before .if3 .left, all-few (rightly e) (long s) (s .args .layer)))
+    λ j. (rw (c .widths-of .ensures) (width-most (s .args .header .shape) j), all-few (s .args .header .shape) (s .args .header .planes) (long s) (rightly e .counts) j) in
+    (c .before .before .if2 .left, small, omega (arith, c .before .if3 .left, small (s .args .layer) .1))
 
 mul-result : tie.Need-mul-result
 mul-result c = search needs

@@ -1,14 +1,16 @@
--- Invariant: the sum so far is that of the layers passed. Each adds at most 736, and there are at most 13.
+-- Invariant: the sum so far is that of the layers passed. With this turn's layer it is a part of the sum of all, which is at most 1,012.
 use mathlib.Core.Path.{_≡_, refl, ap, ap₂, _∙_}
-use Prim.Native.Nat.{ℕ, _≤_, _+_, _*_, _-_}
+use Prim.Native.Nat.{ℕ, suc, _≤_, _+_, _*_, _-_}
 use native.Mathlib.Numerals.{add-one}
 use native.Mathlib.Omega.{arith}
 use lib.ListN.{getD}
 use borrow.Author.Needs.{needs}
 use Rattle.layers.proofs.Accepting.{Sheet, accepted-yes}
 use Rattle.layers.specs.Lists.{total}
-use Rattle.header.specs.Header.{planeCells, cellsOf}
-use Rattle.header.proofs.Cells.{cells-there, layer-cells-most, cells-most}
+use Rattle.header.specs.Header.{cellsMost, planeCells, cellsOf}
+use Rattle.header.proofs.Cells.{cells-there}
+use Rattle.header.proofs.Total.{part-most}
+use Rattle.header.proofs.Totals.{total-suc}
 use Rattle.header.proofs.planes.cells_of.Statement.{statement}
 use Rattle.header.proofs.planes.cells_of.Tie as tie
 
@@ -28,11 +30,16 @@ S c = c .before .before .before .before
 here : (c : tie.After-plane-cells Inv-loop μ-loop) → c .plane-cells .result * getD (S c .args .t2) (c .before .before .loop .k) 0 ≡ planeCells (S c .args .shape) (c .before .before .loop .k) * getD (S c .args .t2) (c .before .before .loop .k) 0
 here c = ap (λ (n : ℕ). n * getD (S c .args .t2) (c .before .before .loop .k) 0) (c .plane-cells .ensures ∙ cells-there (S c .args .shape) (S c .pre .0) (c .before .before .loop .k) (omega arith))
 
-bound : (c : tie.After-plane-cells Inv-loop μ-loop) → planeCells (S c .args .shape) (c .before .before .loop .k) * getD (S c .args .t2) (c .before .before .loop .k) 0 ≤ 736
-bound c = layer-cells-most (S c .args .shape) (S c .pre .0) (S c .args .t2) (S c .pre .1) (c .before .before .loop .k)
-
-sofar : (c : tie.After-plane-cells Inv-loop μ-loop) → c .before .before .loop .cells ≤ 736 * c .before .before .loop .k
-sofar c = omega (arith, c .before .before .loop .inv .1, cells-most (S c .args .shape) (S c .pre .0) (S c .args .t2) (S c .pre .1) (c .before .before .loop .k))
+fits : (c : tie.After-plane-cells Inv-loop μ-loop) → c .before .before .loop .cells + planeCells (S c .args .shape) (c .before .before .loop .k) * getD (S c .args .t2) (c .before .before .loop .k) 0 ≤ cellsMost
+fits c =
+    let s = S c in
+    let k = c .before .before .loop .k in
+    omega (
+      arith,
+      c .before .before .loop .inv .1,
+      total-suc (λ j. planeCells (s .args .shape) j * getD (s .args .t2) j 0) k,
+      part-most (s .args .shape) (s .pre .0) (s .args .t2) (λ j _. s .pre .1 j) (suc k) (omega arith),
+    )
 
 mul-layers : tie.Need-mul-layers Inv-loop μ-loop
 mul-layers c = omega (arith, ok (c .before) .shallow)
@@ -54,10 +61,10 @@ array-read-cells : tie.Need-array-read-cells Inv-loop μ-loop
 array-read-cells c = omega (arith, ok (S c) .shallow)
 
 mul-cells-2 : tie.Need-mul-cells-2 Inv-loop μ-loop
-mul-cells-2 c = omega (arith, here c, bound c)
+mul-cells-2 c = omega (arith, here c, fits c)
 
 add-cells : tie.Need-add-cells Inv-loop μ-loop
-add-cells c = omega (arith, here c, bound c, sofar c, ok (S c) .shallow)
+add-cells c = omega (arith, here c, fits c)
 
 add-k : tie.Need-add-k Inv-loop μ-loop
 add-k c = omega (arith, ok (S c) .shallow)

@@ -1,8 +1,8 @@
 -- The invariant: the cells of layer k's plane and the shares of the layers passed. A layer's share is 0 where it has no plane that early.
-use Prim.Native.Nat.{ℕ, _+_, _-_, _*_, _≤_, _<_}
+use Prim.Native.Nat.{ℕ, _+_, _-_, _*_, _≤_}
 use mathlib.Core.Bool.{cond}
 use mathlib.Core.Logic.{⊎-elim}
-use mathlib.Core.Path.{_≡_, refl, sym, ap, _∙_}
+use mathlib.Core.Path.{_≡_, ap, _∙_}
 use native.Mathlib.Numerals.{add-one}
 use native.Mathlib.Omega.{arith}
 use borrow.Author.Tests.{lt-ltb, le-ltb}
@@ -15,8 +15,6 @@ use Rattle.header.proofs.Totals.{total-suc}
 use Rattle.header.proofs.Through.{share, share-most, shares-most}
 use Rattle.header.proofs.planes.cells_through.Statement.{statement}
 use Rattle.header.proofs.planes.cells_through.Tie as tie
-use Rattle.header.proofs.planes.cells_through.Reads as reads
-use Rattle.header.proofs.planes.cells_through.Lts as lts
 
 abbrev Inv-loop : tie.InvT-loop
 Inv-loop k p widths planes cells₀ j₀ cells j = (j ≤ 13) × (cells ≡ getD widths k 0 + total (share widths planes k p) j)

@@ -1,23 +1,19 @@
 -- The tests in turn, each the test of `right` at its place. The limits of the 13 layers are those of the shape, so a count that passes is at most 23, as the sum of the cells asks.
-use Prim.Native.Nat.{ℕ, _<_, _≤_}
+use Prim.Native.Nat.{ℕ}
 use mathlib.Core.Bool.{true, false}
-use mathlib.Core.Path.{_≡_, refl, sym, ap, _∙_}
-use native.Mathlib.Decide.{decLt}
+use mathlib.Core.List.{List}
+use mathlib.Core.Path.{_≡_, sym, ap, _∙_}
 use native.Mathlib.Omega.{arith}
-use lib.ListN.{length, getD, List·getD-eq-default}
+use lib.ListN.{length, getD}
 use borrow.Author.Needs.{needs}
 use borrow.Author.Tests.{not-true, not-false, le-leb, lt-leb, eq-eqb, ne-eqb}
-use Rattle.layers.specs.Limits.{layersMost, stepMost}
-use Rattle.layers.specs.Lists.{tabulate}
+use Rattle.layers.specs.Limits.{layersMost}
 use Rattle.layers.specs.Sheet.{accepted}
-use Rattle.layers.proofs.Lists.{getD-tabulate}
-use Rattle.header.specs.declared.Header.{Header}
-use Rattle.header.specs.Header.{placesMost, planesOf}
+use Rattle.header.specs.Header.{planesOf}
 use Rattle.header.specs.Plan.{firstOver}
 use Rattle.header.specs.Opening.{planesMost, right}
-use Rattle.header.proofs.Over.{over-none, over-le}
-use Rattle.header.proofs.Firsts.{over-same}
-use Rattle.header.proofs.Rightness.{most-le}
+use Rattle.header.proofs.Over.{over-none, over-le, over-listed}
+use Rattle.header.proofs.Rightness.{all-few}
 use Rattle.header.proofs.planes.is_right.Statement.{statement}
 use Rattle.header.proofs.planes.is_right.Tie as tie
 
@@ -39,7 +35,8 @@ over-is : (c : tie.After-first-over) → c .first-over .result ≡ firstOver (pl
 over-is c =
     let h = S (A c) .args .header in
     c .first-over .ensures
-    ∙ over-same _ (planesMost (h .shape)) (planesOf h) (λ k l. ap (λ (m : _). getD m k 0) (c .before .limits .ensures) ∙ getD-tabulate layersMost (planesMost (h .shape)) k 0 l)
+    ∙ ap (λ (ms : List ℕ). firstOver (λ k. getD ms k 0) (planesOf h)) (c .before .limits .ensures)
+    ∙ over-listed (planesMost (h .shape)) (planesOf h)
 
 none-is : (c : tie.Else3) → firstOver (planesMost (S (A (c .before)) .args .header .shape)) (planesOf (S (A (c .before)) .args .header)) ≡ layersMost
 none-is c =
@@ -79,13 +76,7 @@ cells-of-requires c κs =
     let f = c .before in
     let s = S (A f) in
     let h = s .args .header in
-    let few : (k : ℕ) → planesOf h k ≤ placesMost =
-    λ k.
-    elim (decLt k layersMost) [
-      | yes l ↦ omega (arith, over-none (planesMost (h .shape)) (planesOf h) (none-is c) k l, most-le (h .shape) k)
-      | no l ↦ omega (arith, List·getD-eq-default (h .planes) 0 {n = k} (omega (arith, long s)))
-    ] in
-    (yes-shape (f .before .before .before .before), few)
+    (yes-shape (f .before .before .before .before), all-few (h .shape) (h .planes) (long s) (over-none (planesMost (h .shape)) (planesOf h) (none-is c)))
 
 returns-4 : tie.Need-returns-4
 unfolding right

@@ -9,6 +9,9 @@ use Rattle.header.proofs.planes.plane_cells.Tie as tie
 layer-size-requires : tie.Need-layer-size-requires
 layer-size-requires c κs = search needs
 
+sub-result : tie.Need-sub-result
+sub-result c = omega arith
+
 add-result : tie.Need-add-result
 add-result c = omega (arith, sizing-most (c .before .args .shape) (c .before .args .layer))
 
@@ -17,4 +20,4 @@ unfolding ceilDiv
 returns c = omega (arith, c .layer-size .ensures, cells-sized (c .before .args .shape) (c .before .args .layer))
 
 pub plane-cells-spec : {M : Type 1} → statement M
-plane-cells-spec = tie.close (tie.spec layer-size-requires add-result returns)
+plane-cells-spec = tie.close (tie.spec layer-size-requires sub-result add-result returns)

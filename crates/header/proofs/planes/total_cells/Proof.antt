@@ -1,21 +1,18 @@
 -- The tests in turn, each the test of `cellsNamed` at its place; a count within its limit is at most 23, as the sum of the cells asks.
-use Prim.Native.Nat.{ℕ, _<_, _≤_}
+use Prim.Native.Nat.{ℕ}
 use mathlib.Core.Bool.{true, false}
+use mathlib.Core.List.{List}
 use mathlib.Core.Path.{_≡_, sym, ap, _∙_}
-use native.Mathlib.Decide.{decLt}
 use native.Mathlib.Omega.{arith}
-use lib.ListN.{length, getD, List·getD-eq-default}
+use lib.ListN.{length, getD}
 use borrow.Author.Needs.{needs}
 use borrow.Author.Tests.{not-true, not-false, eq-eqb, ne-eqb}
 use Rattle.layers.specs.Limits.{layersMost}
 use Rattle.layers.specs.Sheet.{accepted}
-use Rattle.layers.proofs.Lists.{getD-tabulate}
-use Rattle.header.specs.Header.{placesMost}
 use Rattle.header.specs.Plan.{firstOver}
 use Rattle.header.specs.Opening.{planesMost, cellsNamed}
-use Rattle.header.proofs.Over.{over-none, over-le}
-use Rattle.header.proofs.Firsts.{over-same}
-use Rattle.header.proofs.Rightness.{most-le}
+use Rattle.header.proofs.Over.{over-none, over-le, over-listed}
+use Rattle.header.proofs.Rightness.{all-few}
 use Rattle.header.proofs.planes.total_cells.Statement.{statement}
 use Rattle.header.proofs.planes.total_cells.Tie as tie
 
@@ -40,7 +37,8 @@ over-is : (c : tie.After-first-over) → c .first-over .result ≡ firstOver (pl
 over-is c =
     let s = S (A c) in
     c .first-over .ensures
-    ∙ over-same _ (planesMost (s .args .shape)) (counts s) (λ k l. ap (λ (m : _). getD m k 0) (c .before .limits .ensures) ∙ getD-tabulate layersMost (planesMost (s .args .shape)) k 0 l)
+    ∙ ap (λ (ms : List ℕ). firstOver (λ k. getD ms k 0) (counts s)) (c .before .limits .ensures)
+    ∙ over-listed (planesMost (s .args .shape)) (counts s)
 
 none-is : (c : tie.Else2) → firstOver (planesMost (S (A (c .before)) .args .shape)) (counts (S (A (c .before)))) ≡ layersMost
 none-is c =
@@ -75,13 +73,7 @@ cells-of-requires : tie.Need-cells-of-requires
 cells-of-requires c κs =
     let f = c .before in
     let s = S (A f) in
-    let few : (k : ℕ) → counts s k ≤ placesMost =
-    λ k.
-    elim (decLt k layersMost) [
-      | yes l ↦ omega (arith, over-none (planesMost (s .args .shape)) (counts s) (none-is c) k l, most-le (s .args .shape) k)
-      | no l ↦ omega (arith, List·getD-eq-default (s .args .planes) 0 {n = k} (omega (arith, long s)))
-    ] in
-    (yes-shape (f .before .before), few)
+    (yes-shape (f .before .before), all-few (s .args .shape) (s .args .planes) (long s) (over-none (planesMost (s .args .shape)) (counts s) (none-is c)))
 
 returns-3 : tie.Need-returns-3
 unfolding cellsNamed

@@ -1,17 +1,12 @@
 -- The invariant: the planes found and those left are all, and those found are whole. A plane that is not there ends the count: none below it is.
-use Prim.Native.Nat.{ℕ, _+_, _-_, _*_, _≤_, _<_}
-use mathlib.Core.Path.{_≡_, refl, sym, ap, _∙_}
+use Prim.Native.Nat.{_+_, _-_}
+use mathlib.Core.Path.{_≡_, ap}
 use native.Mathlib.Omega.{arith}
 use lib.ListN.{getD}
 use Rattle.layers.specs.Lists.{count}
-use Rattle.header.specs.Header.{cellBytes}
-use Rattle.header.specs.CardOrder.{cellsThrough}
 use Rattle.header.proofs.Through.{there, through-most, there-more, there-none}
 use Rattle.header.proofs.planes.whole_of.Statement.{statement}
 use Rattle.header.proofs.planes.whole_of.Tie as tie
-use Rattle.header.proofs.planes.whole_of.Reads as reads
-use Rattle.header.proofs.planes.whole_of.Lts as lts
-use Rattle.header.proofs.planes.cells_through.Reads as cells-through-reads
 
 abbrev Inv-loop : tie.InvT-loop
 Inv-loop widths k n planes left₀ found₀ left found =

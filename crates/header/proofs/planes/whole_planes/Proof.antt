@@ -9,8 +9,6 @@ use borrow.Author.Needs.{needs}
 use borrow.Author.Tests.{not-true, not-false}
 use Rattle.layers.specs.Limits.{layersMost}
 use Rattle.layers.specs.Lists.{count, tabulate}
-use Rattle.header.specs.declared.Plan.{Plan}
-use Rattle.header.specs.Header.{cellsAt}
 use Rattle.header.specs.Opening.{right}
 use Rattle.header.specs.CardOrder.{whole, wholeIn}
 use Rattle.header.proofs.Fills.{Filled, filled-none, filled-more, filled-same, filled-all}
@@ -58,7 +56,7 @@ whole-of-requires c κs =
     let w = W (c .before) in
     let s = S w in
     let small : Small (w .widths-of .result) (s .args .header .planes) =
-    λ j. (rw (w .widths-of .ensures) (width-most (s .args .header .shape) (rightly w .shape) j), all-few (rightly w) (long s) j) in
+    λ j. (rw (w .widths-of .ensures) (width-most (s .args .header .shape) j), all-few (s .args .header .shape) (s .args .header .planes) (long s) (rightly w .counts) j) in
     (c .loop-test .taken, small)
 
 mul-planes : tie.Need-mul-planes Inv-loop μ-loop

@@ -1,22 +1,25 @@
--- The invariant: what is left of the bytes, stored from where the loop has come to, gives what all of them stored from the start give. Each turn stores the first of those left.
-use Prim.Native.Nat.{_≤_, _-_, _+_}
-use mathlib.Core.Path.{_≡_, refl, sym, _∙_}
-use lib.ListN.{length, drop, length-set}
-use lib.Seq.{sets}
-use native.Mathlib.Nat.{add-zero}
+-- The invariant: the first `i` bytes are stored. Each turn stores the next one.
+use Prim.Native.Nat.{ℕ, _+_, _≤_, _-_}
+use mathlib.Core.List.{List}
+use mathlib.Core.Path.{_≡_, refl, ap, _∙_}
+use lib.ListN.{length, take, getD, set}
+use lib.Seq.{sets, length-sets}
 use native.Mathlib.Omega.{arith}
-use Rattle.header.proofs.Stores.{sets-on, sets-end}
+use Rattle.header.proofs.Stores.{sets-next, sets-whole}
 use Rattle.header.proofs.printing.put_bytes.Statement.{statement}
 use Rattle.header.proofs.printing.put_bytes.Tie as tie
 
 abbrev Inv-loop : tie.InvT-loop
-Inv-loop out₀ at bytes i₀ i-end out i = (i ≤ i-end) × (i-end ≡ length bytes) × (length out ≡ length out₀) × (sets out₀ at bytes ≡ sets out (at + i) (drop i bytes))
+Inv-loop out₀ at bytes i₀ i-end out i = (i ≤ i-end) × (i-end ≡ length bytes) × (out ≡ sets out₀ at (take i bytes))
 
 abbrev μ-loop : tie.MeasureT-loop
 μ-loop out₀ at bytes i₀ i-end out i = i-end - i
 
+long : (l : tie.At-loop Inv-loop μ-loop) → length (l .loop .out) ≡ length (l .before .args .out .now)
+long l = let s = l .before in ap length (l .loop .inv .2) ∙ length-sets (s .args .out .now) (s .args .at) (take (l .loop .i) (s .args .bytes .now))
+
 loop-holds : tie.Need-loop-holds Inv-loop μ-loop
-loop-holds c = (omega arith, refl, refl, simp add-zero)
+loop-holds c = (omega arith, refl, refl)
 
 shared-slice-read-out : tie.Need-shared-slice-read-out Inv-loop μ-loop
 shared-slice-read-out c = omega arith
@@ -25,7 +28,7 @@ add-out : tie.Need-add-out Inv-loop μ-loop
 add-out c = omega arith
 
 slice-write-out : tie.Need-slice-write-out Inv-loop μ-loop
-slice-write-out c = omega arith
+slice-write-out c = omega (arith, long (c .before .before))
 
 add-i : tie.Need-add-i Inv-loop μ-loop
 add-i c = omega arith
@@ -34,16 +37,27 @@ loop-less : tie.Need-loop-less Inv-loop μ-loop
 loop-less c = omega arith
 
 loop-again : tie.Need-loop-again Inv-loop μ-loop
-loop-again c = (omega arith, refl, simp length-set (c .before .before .loop .inv .2), c .before .before .loop .inv .3 ∙ sets-on _ _ _ _ (c .before .loop-test .taken))
+loop-again c =
+    let l = c .before .before in
+    let s = l .before in (
+      omega arith,
+      refl,
+      ap (λ (o : List ℕ). set o (s .args .at + l .loop .i) (getD (s .args .bytes .now) (l .loop .i) 0)) (l .loop .inv .2)
+          ∙ sets-next (s .args .out .now) (s .args .at) (s .args .bytes .now) (l .loop .i) 0 (c .before .loop-test .taken),
+    )
 
 add-result : tie.Need-add-result Inv-loop μ-loop
 add-result c = omega arith
 
 same-length : tie.Need-same-length Inv-loop μ-loop
-same-length c = c .before .loop .inv .2
+same-length c = long (c .before)
 
 returns : tie.Need-returns Inv-loop μ-loop
-returns c = (refl, sym (c .before .loop .inv .3 ∙ sets-end _ _ _ _ (c .loop-test .left)))
+returns c =
+    let l = c .before in
+    let s = l .before in
+    let all : l .loop .i ≡ length (s .args .bytes .now) = omega arith in
+    (refl, l .loop .inv .2 ∙ sets-whole (s .args .out .now) (s .args .at) (s .args .bytes .now) (l .loop .i) all)
 
 pub put-bytes-spec : {M : Type 1} → statement M
 put-bytes-spec =

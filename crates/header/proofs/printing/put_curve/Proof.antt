@@ -1,9 +1,7 @@
 -- By the curve: the bytes put are its text.
-use mathlib.Core.Path.{_≡_, sym, ap, _∙_}
 use native.Mathlib.Omega.{arith}
-use lib.ListN.{length}
 use borrow.Author.Needs.{needs}
-use Rattle.header.specs.Header.{asciiFrom, curveText}
+use Rattle.header.specs.Header.{asciiFrom}
 use Rattle.header.proofs.printing.put_curve.Statement.{statement}
 use Rattle.header.proofs.printing.put_curve.Tie as tie
 

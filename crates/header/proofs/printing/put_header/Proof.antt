@@ -1,6 +1,6 @@
 -- The seven lines in turn, each put behind what stands (`put-more`). All of them fit, so each does: a header of u64 has at most 512 bytes of text.
-use mathlib.Core.List.{List, [], _∷_, _++_}
-use mathlib.Core.Path.{_≡_, refl, sym, ap, _∙_}
+use mathlib.Core.List.{List, [], _∷_}
+use mathlib.Core.Path.{_≡_, refl, _∙_}
 use Prim.Native.Nat.{ℕ, _+_, _≤_, _<_, _^_}
 use native.Mathlib.Omega.{arith}
 use lib.ListN.{length, take, getD, set, length-set}
@@ -15,7 +15,7 @@ use Rattle.text.proofs.Lines.{line-length}
 use Rattle.header.specs.declared.Header.{Header}
 use Rattle.header.specs.Header.{asciiFrom, curveText, listText, listed, planesOf, headerText}
 use Rattle.header.proofs.TextLength.{text-length, text-fits}
-use Rattle.header.proofs.Stores.{Put, put-none, put-more, put-run, put-byte, put-all}
+use Rattle.header.proofs.Stores.{put-none, put-more, put-run, put-byte, put-all}
 use Rattle.header.proofs.printing.put_header.Statement.{statement}
 use Rattle.header.proofs.printing.put_header.Tie as tie
 

@@ -1,12 +1,11 @@
 -- The key, the number and byte 10, each put behind what stands (`put-more`); the line's length is that of its parts.
-use mathlib.Core.Path.{_≡_, refl, _∙_}
-use mathlib.Core.List.{_++_}
+use mathlib.Core.Path.{_∙_}
 use native.Mathlib.Omega.{arith}
 use lib.ListN.{length-set}
 use Rattle.text.specs.Line.{lineText}
 use Rattle.text.specs.Decimal.{digits}
 use Rattle.text.proofs.Lines.{line-length}
-use Rattle.header.proofs.Stores.{Put, put-none, put-more, put-byte}
+use Rattle.header.proofs.Stores.{put-none, put-more, put-byte}
 use Rattle.header.proofs.printing.put_line.Statement.{statement}
 use Rattle.header.proofs.printing.put_line.Tie as tie
 

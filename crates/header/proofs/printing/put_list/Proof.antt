@@ -1,13 +1,14 @@
 -- The invariant: where the first number was put, the first `i` numbers are put, and the place is behind them. Each turn puts a comma and a number more.
-use mathlib.Core.List.{List, _∷_, _++_, []}
-use mathlib.Core.Path.{_≡_, refl, sym, ap, _∙_}
+use mathlib.Core.List.{List}
+use mathlib.Core.Path.{_≡_, refl, ap, _∙_}
 use Prim.Native.Nat.{ℕ, _+_, _-_, _≤_, _<_}
 use native.Mathlib.Omega.{arith}
 use lib.ListN.{length, take, getD, length-set}
 use borrow.Author.Needs.{needs}
 use Rattle.text.specs.Decimal.{digits}
-use Rattle.header.specs.Header.{comma, listText}
-use Rattle.header.proofs.Stores.{Put, put-none, put-more, put-byte, list-one, list-more, list-longer, list-rises}
+use Rattle.header.specs.Header.{listText}
+use Rattle.header.proofs.Stores.{Put, put-none, put-more, put-byte}
+use Rattle.header.proofs.ListText.{list-one, list-more, list-longer, list-rises}
 use Rattle.header.proofs.printing.put_list.Statement.{statement}
 use Rattle.header.proofs.printing.put_list.Tie as tie
 

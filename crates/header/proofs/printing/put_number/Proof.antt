@@ -1,8 +1,8 @@
 -- The bytes put are the first `length` of what `to_decimal` answers, which are the characters of the number; a u64 has at most twenty.
-use mathlib.Core.Path.{_≡_, refl, sym, ap, _∙_}
-use Prim.Native.Nat.{ℕ, _≤_, _<_, _^_}
+use mathlib.Core.Path.{sym, ap, _∙_}
+use Prim.Native.Nat.{ℕ, _≤_}
 use native.Mathlib.Omega.{arith}
-use lib.ListN.{length, take}
+use lib.ListN.{length}
 use borrow.Author.Needs.{needs, length-unmapped}
 use Rattle.text.proofs.Digits.{length-20}
 use Rattle.header.proofs.printing.put_number.Statement.{statement}

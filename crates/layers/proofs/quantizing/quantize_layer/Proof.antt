@@ -22,9 +22,9 @@ use Rattle.layers.specs.Sheet.{points, layers, direction, spacing, has, 
 use Rattle.layers.specs.Prediction.{predicted, coefficientOf}
 use Rattle.layers.specs.Loops.{writtenMost, predictedMost, Below}
 use Rattle.layers.proofs.Accepting.{Sheet, accepted-yes}
-use Rattle.layers.proofs.Fits.{spacing-some, spacing-small, rows-small, cols-small}
+use Rattle.layers.proofs.Fits.{rows-small, cols-small}
 use Rattle.layers.proofs.Point.{within-more}
-use Rattle.layers.proofs.Grids.{Good, grid-good, out-top, out-rows, out-left, out-cols, inside}
+use Rattle.layers.proofs.Grids.{Good, layer-good, out-top, out-rows, out-left, out-cols, inside}
 use Rattle.layers.proofs.Doing.{Doing, doing-none, doing-skip, doing-more, doing-all, doing-low}
 use Rattle.layers.proofs.Range.{predicted-near}
 use Rattle.layers.proofs.Results.{result-is, result-within}
@@ -84,9 +84,7 @@ below : (t : T) → K t < layers (Sh t)
 below t = omega (arith, A t .pre .0 .1)
 
 good : (t : T) → Good (G t)
-good t =
-    rw (t .grid-of .ensures)
-    (grid-good (direction (K t)) (spacing (Sh t .levels) (K t)) (spacing-some (Sh t .levels) (K t)) (spacing-small (Sh t .levels) (K t) (sheet t .shallow)))
+good t = rw (t .grid-of .ensures) (layer-good (Sh t .levels) (K t) (sheet t .shallow))
 
 skip : (t : T) {l m : List ℤ} {p : ℕ} {vs qs : List ℤ} (p′ : ℕ) → p ≤ p′ → ((i : ℕ) → p ≤ i → i < p′ → inLayer (Sh t) (K t) i ≡ false) → Done t l m p vs qs → Done t l m p′ vs qs
 skip t {l} {m} p′ h out d = doing-skip (Sh t) (A t .pre .0 .0 .shape) (A t .args .curve) (A t .args .step) (K t) (below t) (Xs t) l m p′ h out d

@@ -4,34 +4,22 @@ use mathlib.Core.Bool.{true, false, _&&_}
 use mathlib.Core.List.{List}
 use Prim.Native.Nat.{ℕ, _≤_}
 use native.Mathlib.Omega.{arith}
-use lib.Dec.{leb}
 use lib.IntN.{ℤ}
 use lib.ListN.{length}
 use denote.Ref.{now}
 use borrow.Author.Needs.{needs}
-use borrow.Author.Tests.{not-true, not-false, leb-true, eq-eqb, ne-eqb}
+use borrow.Author.Tests.{not-true, not-false}
 use Rattle.layers.specs.declared.Shape.{Shape}
 use Rattle.layers.specs.declared.Curve.{Curve}
 use Rattle.layers.specs.Limits.{stepMost}
 use Rattle.layers.specs.Sheet.{accepted, points}
 use Rattle.layers.specs.Layering.{layering, rebuilt}
 use Rattle.layers.specs.Calls.{settled, full, rebuildable, rebuilding}
-use Rattle.integers.proofs.Bools.{and-left, and-right, and-both, and-no-left, and-no-right}
+use Rattle.integers.proofs.Bools.{and-both, and-no-left, and-no-right}
 use Rattle.layers.proofs.Accepting.{accepted-yes}
+use Rattle.layers.proofs.Answers.{settled-yes, full-yes, full-no}
 use Rattle.layers.proofs.rebuilding.rebuild.Statement.{statement}
 use Rattle.layers.proofs.rebuilding.rebuild.Tie as tie
-
-settled-yes : (sh : Shape) (e : ℕ) → settled sh e ≡ true → (accepted sh ≡ true) × (e ≤ stepMost)
-unfolding settled
-settled-yes sh e h = (and-left (accepted sh) (leb e stepMost) h, leb-true e stepMost (and-right (accepted sh) (leb e stepMost) h))
-
-full-yes : (sh : Shape) (l : List ℤ) → length l ≡ points sh → full sh l ≡ true
-unfolding full
-full-yes sh l h = eq-eqb (length l) (points sh) h
-
-full-no : (sh : Shape) (l : List ℤ) → (length l ≡ points sh → ⊥) → full sh l ≡ false
-unfolding full
-full-no sh l h = ne-eqb (length l) (points sh) h
 
 -- the tests, and what is answered and left by their outcome
 module _ (sh : Shape) (e : ℕ) (qs vs : List ℤ) where

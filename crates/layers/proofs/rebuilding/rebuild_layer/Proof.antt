@@ -21,8 +21,8 @@ use Rattle.layers.specs.Prediction.{predicted, rebuiltFrom}
 use Rattle.layers.specs.Layering.{reads as readsBy}
 use Rattle.layers.specs.Loops.{valueMost, Below}
 use Rattle.layers.proofs.Accepting.{Sheet, accepted-yes}
-use Rattle.layers.proofs.Fits.{spacing-some, spacing-small, rows-small, cols-small}
-use Rattle.layers.proofs.Grids.{Good, grid-good, out-top, out-rows, out-left, out-cols, inside}
+use Rattle.layers.proofs.Fits.{rows-small, cols-small}
+use Rattle.layers.proofs.Grids.{Good, layer-good, out-top, out-rows, out-left, out-cols, inside}
 use Rattle.layers.proofs.Filling.{Filling, filling-none, filling-skip, filling-more, filling-all, filling-low}
 use Rattle.layers.proofs.Range.{predicted-low}
 use Rattle.layers.proofs.Results.{result-is, result-within}
@@ -84,9 +84,7 @@ below : (t : T) → K t < layers (Sh t)
 below t = omega (arith, A t .pre .0 .2)
 
 good : (t : T) → Good (G t)
-good t =
-    rw (t .grid-of .ensures)
-    (grid-good (direction (K t)) (spacing (Sh t .levels) (K t)) (spacing-some (Sh t .levels) (K t)) (spacing-small (Sh t .levels) (K t) (sheet t .shallow)))
+good t = rw (t .grid-of .ensures) (layer-good (Sh t .levels) (K t) (sheet t .shallow))
 
 grid-of-requires : tie.Need-grid-of-requires Inv-loop2 μ-loop2 Inv-loop μ-loop
 grid-of-requires c κs = (accepted-yes (c .args .shape) (c .pre .0 .0) .shallow, c .pre .0 .2)

@@ -14,8 +14,8 @@ use Rattle.layers.specs.Sheet.{accepted, layers, layerSize, direction, s
 use Rattle.layers.specs.Loops.{gridFor}
 use Rattle.layers.specs.Calls.{sizing}
 use Rattle.layers.proofs.Accepting.{Sheet, accepted-yes}
-use Rattle.layers.proofs.Fits.{spacing-some, spacing-small, rows-small, cols-small}
-use Rattle.layers.proofs.Grids.{Good, grid-good}
+use Rattle.layers.proofs.Fits.{spacing-small, rows-small, cols-small}
+use Rattle.layers.proofs.Grids.{Good, layer-good}
 use Rattle.layers.proofs.Places.{size-most}
 use Rattle.layers.proofs.Size.{layer-size}
 use Rattle.layers.proofs.sheet.layer_size.Statement.{statement}
@@ -64,9 +64,7 @@ G t = t .grid-of .result
 good : (t : tie.After-grid-of) → Good (G t)
 good t =
     let a = A (t .before .before) in
-    let l = a .args .shape .levels in
-    rw (t .grid-of .ensures)
-    (grid-good (direction (a .args .layer)) (spacing l (a .args .layer)) (spacing-some l (a .args .layer)) (spacing-small l (a .args .layer) (ok (t .before .before) .shallow)))
+    rw (t .grid-of .ensures) (layer-good (a .args .shape .levels) (a .args .layer) (ok (t .before .before) .shallow))
 
 first : (t : tie.After-grid-of) → (G t .row ≤ 2 ^ levelsMost) × (G t .col ≤ 2 ^ levelsMost)
 first t =
