@@ -1,4 +1,4 @@
-/* The trace card: a sheet of whole numbers written coarse part first, readable from any cut, with one figure beside it: how far off any value may be.
+/* The trace card: a sheet of whole numbers written coarse part first, readable from any cut behind its header, with one figure beside it: how far off any value may be.
  *
  * Every function returns the refusal's number, 0 where the call is accepted. A slice is a pointer, then the number of its elements. A refused
  * call changes nothing but the answer.

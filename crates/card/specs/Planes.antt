@@ -57,7 +57,8 @@ body h qs = downFrom h qs placesMost
 unfoldable pub enough : Shape → List ℤ → ℕ → ℕ → Bool
 enough sh qs k n = allBelow (λ p. not (inLayer sh k p) || holds n (at qs p)) (points sh)
 
--- "P_k is the fewest digits that hold every q of layer k (0 where all are 0 or the layer is empty)"; past the last layer 0 stands
+-- "P_k is the fewest digits that hold every q of layer k (0 where all are 0 or the layer is empty)"; past the last layer 0 stands. 23 digits are
+-- "enough for every accepted sheet" (`Writes.coefs-hold`), so the search ends there
 unfoldable pub planesFor : Shape → List ℤ → ℕ → ℕ
 planesFor sh qs k = cond (ltb k (layers sh)) (firstFrom (enough sh qs k) placesMost 0) 0
 

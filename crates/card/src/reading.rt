@@ -1,13 +1,12 @@
 // Reading a card with a plan, and showing all that is there.
 ghost use mathlib.Core.Path.{_≡_};
 ghost use mathlib.Core.Bool.{true};
-ghost use Prim.Native.Nat.{ℕ, _+_, _*_, _-_, _<_, _≤_};
+ghost use Prim.Native.Nat.{_≤_};
 ghost use lib.ListN.{length, replicate};
 ghost use Rattle.layers.specs.Limits.{layersMost};
 ghost use Rattle.header.specs.Header as Hd;
 ghost use Rattle.header.specs.Plan as N;
 ghost use Rattle.header.specs.Opening as O;
-ghost use Rattle.header.specs.CardOrder as K;
 ghost use Rattle.card.specs.Reading as R;
 ghost use Rattle.card.specs.Words as W;
 use crate::Loaded;

@@ -1,11 +1,10 @@
 // Refining a reading: the next plane of one layer.
 ghost use mathlib.Core.Path.{_≡_};
 ghost use mathlib.Core.Bool.{true};
-ghost use Prim.Native.Nat.{ℕ, suc, _+_, _*_, _-_, _/_, _<_, _≤_};
+ghost use Prim.Native.Nat.{suc, _+_, _*_, _-_, _/_, _<_, _≤_};
 ghost use lib.ListN.{length};
-ghost use Rattle.digits.specs.Digits.{holds, weight};
+ghost use Rattle.digits.specs.Digits.{weight};
 ghost use Rattle.layers.specs.Limits.{layersMost};
-ghost use Rattle.layers.specs.Lists.{at};
 ghost use Rattle.layers.specs.Sheet as S;
 ghost use Rattle.header.specs.Header as Hd;
 ghost use Rattle.header.specs.Plan as N;

@@ -9,7 +9,6 @@ ghost use Rattle.layers.specs.Limits.{layersMost};
 ghost use Rattle.layers.specs.Lists.{at, tabulate};
 ghost use Rattle.layers.specs.Sheet as S;
 ghost use Rattle.header.specs.Header as Hd;
-ghost use Rattle.card.specs.Planes as P;
 ghost use Rattle.card.specs.Words as W;
 use header::CELL_POINTS;
 use layers::MOST_LAYERS;

@@ -92,7 +92,9 @@ fn ends_later(file: i32) -> bool {
 }
 
 // An input that is longer than any card: its first bytes, and the file with the rest.
-fn show_long(bytes: &[u8], file: i32) {
+fn show_long(bytes: &[u8], file: i32)
+    requires { ⌜ S.bufferBytes ≤ length (now bytes) ⌝ }
+{
     let number = opening_number(bytes);
     let ends = number == 5 && ends_later(file);
     write(line(b"refused=", long_number(number, ends)));
@@ -106,5 +108,5 @@ pub fn show(file: i32) {
         show_bytes(&buffer[..n]);
         return;
     }
-    show_long(&buffer, file);
+    show_long(&buffer[..n], file);
 }

@@ -27,12 +27,12 @@ use Rattle.card.specs.Reading.{Reading, wholeOf, readPlan, readOpened, showing}
 use Rattle.card.specs.Reading as R
 use Rattle.planner.specs.Planning.{bestByLimit, bestByCells, found, byLimit, byCells}
 use Rattle.planner.specs.Planning as N
-use Rattle.guarantee.specs.Bench.{sheet, samples, coefficients, card, Five}
+use Rattle.guarantee.specs.Bench.{shape, samples, coefficients, card, Five}
 use Rattle.guarantee.proofs.RowsOpened.{opened, openings}
 
 -- ---- writing
 -- "planes=5,1,0, cells=6", and the six planes
-card-is : cardOf sheet Linear 1 coefficients ≡ card
+card-is : cardOf shape Linear 1 coefficients ≡ card
 unfolding
     cardOf headerText lineText digits digitsIn listText listed asciiFrom countsFor planesFor enough allBelow firstFrom holds evens odds
     body downFrom atPlace planeBytes planeBit packed digitAt lowest higher floorDiv pointOf nth
@@ -40,7 +40,7 @@ unfolding
 card-is = refl
 
 pub written : (qs vs : List ℤ) (out : List ℕ) → Five qs vs → outputLeast ≤ length out
-    → writing samples sheet Linear 1 qs vs out ≡ done samples sheet Linear 1 qs vs out card
+    → writing samples shape Linear 1 qs vs out ≡ done samples shape Linear 1 qs vs out card
 unfolding writing badSizes scanned goodPrefix inRange
 written qs vs out five room =
     rw (

@@ -20,8 +20,8 @@ use Rattle.planner.specs.Planning.{Planning, byLimit, byCells, cellsIn, figureI
 use Rattle.planner.specs.Planning as N
 
 -- "1 by 5, L 1, linear, e 1, readings 10 13 11 20 30"
-abbrev pub sheet : Shape
-sheet = record { rows = 1; cols = 5; levels = 1 }
+abbrev pub shape : Shape
+shape = record { rows = 1; cols = 5; levels = 1 }
 
 abbrev pub samples : List ℤ
 samples = pos 10 ∷ pos 13 ∷ pos 11 ∷ pos 20 ∷ pos 30 ∷ []
@@ -64,7 +64,7 @@ pub record Spelt (q : ℤ) (ds : List ℕ) : Type 0 where
 pub record Bench : Type 0 where
   -- "coefficients ..; rebuilt ..; header 64 bytes, card 256"
   pub written : (qs vs : List ℤ) (out : List ℕ) → Five qs vs → outputLeast ≤ length out
-      → writing samples sheet Linear 1 qs vs out
+      → writing samples shape Linear 1 qs vs out
       ≡ record { refused = refusal 0 0 0; long = 256; coefficients = coefficients; values = values; output = card ++ drop 256 out }
   pub header : length text ≡ 64
   pub long : length card ≡ 256

@@ -1,5 +1,5 @@
 -- The figure (document 01): how far off any value may be.
-use mathlib.Core.Bool.{Bool, true, false, cond, _&&_}
+use mathlib.Core.Bool.{cond, _&&_}
 use mathlib.Core.List.{List}
 use Prim.Native.Nat.{ℕ, _+_, _*_, _-_}
 use lib.Dec.{ltb, eqb}
@@ -25,7 +25,7 @@ loss h k d = D.loss d
 abbrev pub ownLoss : Header → (ℕ → ℕ) → ℕ → ℕ
 ownLoss h plan k = loss h k (planesOf h k - plan k) * width (h .step)
 
--- "Start with loss × w of layer 0. Each later non-empty layer first carries what stands, then adds its own. The figure is e plus the result."
+-- "Start with loss × w of layer 0. Each later non-empty layer first carries what stands .., then adds its own loss × w. .. The figure is e plus the result."
 unfoldable pub figureOf : Header → (ℕ → ℕ) → ℕ
 figureOf h plan = h .step + C.standing (h .shape) (h .curve) (ownLoss h plan) (layers (h .shape))
 

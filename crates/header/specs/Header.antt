@@ -4,7 +4,7 @@ use mathlib.Core.List.{List, [], _∷_, _++_}
 use Prim.Native.Char.{code}
 use Prim.Native.Nat.{ℕ, zero, suc, _+_, _*_, min}
 use Prim.Native.String.{String, len, charAt}
-use lib.Dec.{ltb, eqb}
+use lib.Dec.{ltb}
 use lib.ListN.{getD, take}
 use Rattle.integers.specs.Floor.{ceilDiv}
 use Rattle.layers.specs.declared.Shape.{Shape}
@@ -80,7 +80,7 @@ listed levels = min (1 + 2 * levels) layersMost
 abbrev pub textMost : ℕ
 textMost = 512
 
--- "seven lines, key=value, each ended by byte 10, in this order: rows, cols, levels, curve, step, planes, cells"
+-- "seven lines, key=value, each ended by byte 10, in this order: rows, cols, levels, curve .., step, planes .., cells .."
 unfoldable pub headerText : Header → List ℕ
 headerText h =
     lineText (ascii "rows=") (h .shape .rows)

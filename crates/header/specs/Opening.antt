@@ -47,7 +47,7 @@ no d = record { refused = d; header = blank; long = 0 }
 abbrev pub told : Opened → Opening
 told o = record { refused = detailsOf (o .refusal); header = o .header; long = o .length }
 
--- ---- a line in turn: "5, bytes end before a line's byte 10. 6, a line is wrong (detail: line 1 to 7)"
+-- ---- a line in turn: "5, bytes end before a line's byte 10. 6, a line is wrong (detail: line 1 to 7; ..)"
 abbrev pub taking : ℕ → Line → (ℕ → ℕ → Opening) → Opening
 taking n L.Short go = no (refusal 5 0 0)
 taking n L.Wrong go = no (refusal 6 n 0)

@@ -1,6 +1,5 @@
 -- Plans (document 01): "A plan is 13 numbers: planes loaded from the top for each layer, 0 past the last."
-use mathlib.Core.Bool.{Bool, cond, _&&_}
-use mathlib.Core.List.{List}
+use mathlib.Core.Bool.{cond, _&&_}
 use Prim.Native.Nat.{ℕ, _+_, _^_}
 use lib.Dec.{ltb}
 use lib.ListN.{getD, set}

@@ -3,7 +3,6 @@ ghost use mathlib.Core.Path.{_≡_};
 ghost use Prim.Native.Nat.{_+_, _<_, _≤_};
 ghost use lib.ListN.{length, take};
 ghost use lib.Seq.{sets};
-ghost use Rattle.layers.specs.Lists.{count};
 ghost use Rattle.text.specs.Decimal as T;
 ghost use Rattle.text.specs.Line as L;
 ghost use Rattle.layers.specs.Limits.{layersMost};

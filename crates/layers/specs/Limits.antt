@@ -1,5 +1,5 @@
 -- The sizes that document 01 fixes.
-use Prim.Native.Nat.{ℕ, _+_, _*_, _^_}
+use Prim.Native.Nat.{ℕ, _+_, _*_}
 
 -- "R × C at most 8,192"
 abbrev pub pointsMost : ℕ

@@ -1,4 +1,4 @@
--- What the private functions ask for and give: a layer as a grid, and the bounds that keep every sum within an i64.
+-- What the loops work with: a layer as a grid, and the bounds that keep every sum within an i64.
 use mathlib.Core.Bool.{true, cond}
 use mathlib.Core.List.{List}
 use mathlib.Core.Path.{_≡_}
@@ -32,7 +32,7 @@ unfoldable pub steps : ℕ → ℕ → ℕ → ℕ
 steps first step end = cond (ltb first end) ((end - first - 1) / step + 1) 0
 
 -- ---- bounds
--- a value written is within the step of its sample, and a cubic prediction from such values within five quarters of that
+-- a value written is within the step of its sample, and a cubic prediction from such values within little more than five quarters of that
 abbrev pub writtenMost : ℕ
 writtenMost = sampleMost + stepMost
 

@@ -34,7 +34,7 @@ usesFour Linear n t s = false
 usesFour Cubic n t s = allFour n t s
 
 -- "One rule serves both directions": what is predicted at place t of a line of n points, from those 3s before, s before, s after and 3s after it.
--- "Otherwise, b and c there ..; otherwise b alone."
+-- "Otherwise, b and c there: (b + c) / 2 .. Otherwise b alone."
 unfoldable pub line : Curve → List ℤ → ℕ → ℕ → ℕ → ℕ → ℕ → ℤ
 line curve vs start stride n t s =
     cond (usesFour curve n t s)

@@ -1,6 +1,6 @@
 -- The sheet and its layers (document 01). A point p of a sheet of C columns stands at row p / C, column p % C: row order.
 use mathlib.Core.Bool.{Bool, cond, _&&_}
-use Prim.Native.Nat.{ℕ, _+_, _-_, _*_, _/_, _%_, _^_, _<_, _≤_}
+use Prim.Native.Nat.{ℕ, _+_, _-_, _*_, _/_, _%_, _^_}
 use lib.Dec.{leb, eqb}
 use Rattle.layers.specs.declared.Shape.{Shape}
 use Rattle.layers.specs.declared.Direction.{Direction}
@@ -8,7 +8,7 @@ use Rattle.layers.specs.declared.Direction.the-variants.{Anchor, Across,
 use Rattle.layers.specs.Limits.{pointsMost, levelsMost}
 use Rattle.layers.specs.Lists.{count, nth}
 
--- "R rows and C columns, both at least 1, R × C at most 8,192. Levels L: 0 to 6."
+-- "R rows and C columns, both at least 1, R × C at most 8,192. .. Levels L: 0 to 6."
 unfoldable pub accepted : Shape → Bool
 accepted sh = (leb 1 (sh .rows) && leb 1 (sh .cols)) && (leb (sh .rows * sh .cols) pointsMost && leb (sh .levels) levelsMost)
 

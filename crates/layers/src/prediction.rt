@@ -13,7 +13,7 @@ use crate::Shape;
 use crate::sheet::direction_of;
 use crate::sheet::spacing;
 
-// "A line is the lent sheet with a first point, a spacing and a count" (document 01). Its spacing is called its stride, since a layer has a
+// "a line is the lent sheet with a first point, a spacing and a count" (document 01). Its spacing is called its stride, since a layer has a
 // spacing too.
 pub struct Line<'a> {
     pub values: &'a [i64],

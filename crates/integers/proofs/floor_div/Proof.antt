@@ -80,10 +80,14 @@ returns c =
     ∙ ap negsuc (c .quotient .ensures)
     ∙ sym (floor-below (c .before .before .args .x) _ (c .before .before .args .w) (below-is (c .before) .0))
 
+-- the quotient is x by w itself, compared as a number
+quotient-is : (c : tie.After-quotient2) → c .quotient2 .result ≡ natAbs (toZ w64 (ofZ w64 (c .before .before .args .x))) / c .before .before .args .w
+quotient-is c = omega (arith, c .quotient2 .ensures)
+
 returns-2 : tie.Need-returns-2
 returns-2 c =
     eq-by (cast (cast-result-2 c)) (lit (c .quotient2 .result)) (omega arith)
-    ∙ ap pos (c .quotient2 .ensures)
+    ∙ ap pos (quotient-is c)
     ∙ sym (floor-above (c .before .before .args .x) _ (c .before .before .args .w) (above-is (c .before) .0))
 
 pub floor-div-spec : {M : Type 1} → statement M

@@ -1,7 +1,7 @@
 -- By cases on the tests, which are those of the definition: `find` gives the end of the line, and `is_text` compares the line with each key.
 use mathlib.Core.Bool.{false}
 use mathlib.Core.List.{List, _++_}
-use mathlib.Core.Path.{_≡_, refl, _∙_}
+use mathlib.Core.Path.{_≡_, refl, sym, _∙_}
 use Prim.Native.Nat.{ℕ, _-_, _<_}
 use native.Mathlib.Omega.{arith}
 use lib.ListN.{length, take, drop}
@@ -53,7 +53,7 @@ find-requires : tie.Need-find-requires
 find-requires c κs = search needs
 
 returns : tie.Need-returns
-returns c = rw (curve-short _ _ (end-is (c .before)) (past (A (c .before) .args .bytes .now) (A (c .before) .args .at) (c .if1 .taken)))
+returns c = sym (curve-short _ _ (end-is (c .before)) (past (A (c .before) .args .bytes .now) (A (c .before) .args .at) (c .if1 .taken)))
 
 sub-line : tie.Need-sub-line
 sub-line c = search needs

@@ -69,12 +69,14 @@ returns-2 c =
     ∙ ap (λ (s : ℕ). line (a .args .curve) (now (a .args .values)) (a .args .row * a .args .shape .cols) 1 (a .args .shape .cols) (a .args .col) s) (d .before .before .spacing .ensures)
     ∙ by-direction a (sym e)
 
+-- down a column the stride is the number of columns, compared as a number
 returns-3 : tie.Need-returns-3
 returns-3 c =
     let d = c .before in
     let a = d .before .before .before .before in
     let e = sym (d .before .before .before .direction-of .ensures) ∙ d .enum-told3 .given .1 in
     result-is (c .predict-along2 .ok) (c .predict-along2 .ensures)
+    ∙ ap (λ (stride : ℕ). line (a .args .curve) (now (a .args .values)) (a .args .col) stride (a .args .shape .rows) (a .args .row) (d .before .before .spacing .result)) (omega arith)
     ∙ ap (λ (s : ℕ). line (a .args .curve) (now (a .args .values)) (a .args .col) (a .args .shape .cols) (a .args .shape .rows) (a .args .row) s) (d .before .before .spacing .ensures)
     ∙ by-direction a (sym e)
 

@@ -3,12 +3,14 @@
 use mathlib.Core.Path.{_≡_, _∙_, sym, ap}
 use mathlib.Core.Bool.{true}
 use mathlib.Core.List.{List}
+use Prim.Native.Nat.{ℕ}
 use native.Mathlib.Omega.{arith}
 use lib.IntN.{ℤ}
 use denote.Ref.{now}
 use borrow.Author.Needs.{needs}
 use borrow.Author.Tests.{not-true, not-false}
 use Rattle.layers.specs.declared.Shape.{Shape}
+use Rattle.layers.specs.declared.Quantized.the-variants.{OutOfRange}
 use Rattle.layers.specs.Calls.{settled, Quantizing, quantizable}
 use Rattle.layers.proofs.Accepting.{accepted-yes}
 use Rattle.layers.proofs.Answers.{settled-yes, samples-by, unsettled, samples-short, coefficients-short, values-short, right, after-scan}
@@ -47,7 +49,7 @@ mul-points c =
 returns-2 : tie.Need-returns-2
 returns-2 c =
     let a = c .before .before .before in
-    samples-short (Sh a) (a .args .curve) (a .args .step) (Xs a) (Qs a) (Vs a) (c .if2 .taken)
+    samples-short (Sh a) (a .args .curve) (a .args .step) (Xs a) (Qs a) (Vs a) (λ e. c .if2 .taken (omega arith))
 
 returns-3 : tie.Need-returns-3
 returns-3 c =
@@ -87,6 +89,10 @@ quantize-layers-requires c κs =
       (d .before .if3 .left, d .if4 .left),
     )
 
+-- the place that is answered, number by number
+same-place : {row row′ col col′ : ℕ} → row ≡ row′ → col ≡ col′ → OutOfRange row col ≡ OutOfRange row′ col′
+same-place e f = rw (e, f)
+
 returns-5 : tie.Need-returns-5
 returns-5 c =
     let r = c .before in
@@ -94,7 +100,7 @@ returns-5 c =
     let d = s .before in
     let a = A d in
     let e = after-scan (Sh a) (a .args .curve) (a .args .step) (Xs a) (Qs a) (Vs a) (all-right d) _ (sym (r .row .given .1) ∙ s .scan-samples .ensures) in
-    (ap (λ (z : Quantizing). z .answer) (sym e), ap (λ (z : Quantizing). z .coefficients) (sym e), ap (λ (z : Quantizing). z .values) (sym e))
+    (same-place (omega arith) (omega arith) ∙ ap (λ (z : Quantizing). z .answer) (sym e), ap (λ (z : Quantizing). z .coefficients) (sym e), ap (λ (z : Quantizing). z .values) (sym e))
 
 same-length : tie.Need-same-length
 same-length c = search needs
