@@ -1,4 +1,4 @@
-//! Each call beside the same call in Rust (`fast`), in one run: the best of many, in
+//! Write, show, refine and both plannings beside the same calls in Rust (`fast`), in one run: the best of many, in
 //! microseconds, and the ratio. It stops where the two give different results.
 //!
 //! `cargo bench --offline`, after `rt staticlib trace_card`.
@@ -143,7 +143,7 @@ fn run(setting: &Setting) {
         compare(name, || proved(&mut ours), || rust(&mut theirs));
     }
 
-    // From the half-read card, the next plane of the layer that has the most left to read.
+    // From the half-read card, the next plane of the last layer that has one.
     let mut plan = [0; PLAN];
     plan.copy_from_slice(&ours.answer[5..5 + PLAN]);
     let start = ours.coefficients.clone();

@@ -5,6 +5,7 @@ use std::path::Path;
 use std::process::{Command, Stdio};
 use trace_card_tests::model::{open, program::shown};
 use trace_card_tests::random::cases::{Case, LARGE_SIZES};
+use trace_card_tests::random::sheets::Kind;
 use trace_card_tests::random::Random;
 
 /// What the program prints with these bytes on its standard input.
@@ -50,14 +51,20 @@ fn small_cards_whole_cut_and_damaged() {
     }
 }
 
+/// Cards up to the longest there are, which fill most of the program's buffer.
 #[test]
 fn the_largest_cards() {
     let mut random = Random::new(582);
+    let mut longest = 0;
     for (rows, cols) in LARGE_SIZES {
-        let card = Case::of_size(&mut random, rows, cols).write().card;
+        let mut case = Case::of_kind(&mut random, Kind::Ends, rows, cols);
+        (case.levels, case.step) = (6, 0);
+        let card = case.write().card;
+        longest = longest.max(card.len());
         check(&card);
         check(&card[..card.len() / 2]);
     }
+    assert!(longest > 29_000, "{longest}");
 }
 
 /// Input far longer than any card: the answer is that of all of it, wherever its lines end.

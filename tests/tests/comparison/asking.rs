@@ -46,14 +46,16 @@ fn figures_of_plans() {
 fn headers_damaged_byte_by_byte() {
     let mut random = Random::new(532);
     let mut opened_anyway = 0;
-    for _ in 0..6 {
+    // Every byte value on the first card, some on the others.
+    for round in 0..5 {
+        let (first, step) = if round == 0 { (0, 1) } else { (round, 9) };
         let case = Case::small(&mut random);
         let card = written(&case);
         let header = open(&card).unwrap().header_length;
         let n = case.count();
         let plan: Plan = [0; PLAN];
         for position in 0..header {
-            for byte in (0..=255).step_by(5).chain(*b"0123456789,=\n-+ ") {
+            for byte in (first..=255).step_by(step).chain(*b"0123456789,=\n-+ ") {
                 let mut damaged = card.clone();
                 damaged[position] = byte;
                 opened_anyway += u64::from(open(&damaged).is_ok());

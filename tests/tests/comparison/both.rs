@@ -66,7 +66,7 @@ fn answer_with(size: u64, figure: u64, plan: &Plan) -> [u64; ANSWER] {
     answer
 }
 
-/// The answer to what the model says, and what is returned beside it.
+/// The answer that what the model says makes.
 fn expected<T>(
     result: &Result<T, Refusal>,
     accepted: impl Fn(&T) -> [u64; ANSWER],
@@ -211,6 +211,8 @@ pub fn every_call(card: &[u8], plan: &Plan, layer: u64, lengths: [usize; 2]) {
         let _ = reach(card, call, &mut slices);
     }
     let _ = figure(card, plan);
-    check_limit(card, plan[0], &model::plan_by_limit(card, plan[0]));
-    check_cells(card, plan[0], &model::plan_by_cells(card, plan[0]));
+    for asked in [plan[0], layer, 70_000, u64::MAX] {
+        check_limit(card, asked, &model::plan_by_limit(card, asked));
+        check_cells(card, asked, &model::plan_by_cells(card, asked));
+    }
 }

@@ -2,6 +2,9 @@
 //! and every slice afterwards. A slice is lent between guard zones and with a known filling,
 //! which a refused call must leave.
 
+#[path = "../common/mod.rs"]
+mod common;
+
 mod asking;
 mod both;
 mod hostile;

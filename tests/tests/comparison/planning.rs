@@ -1,7 +1,10 @@
 //! Planning, against every plan on small cards and against the model's second method on large ones.
 
 use super::both::{check_cells, check_limit, written};
-use trace_card_tests::model::planner::{exhaustive, front, plans_of, Goal, Planned};
+use super::common::every_plan;
+use trace_card_tests::model::figure::figure_of;
+use trace_card_tests::model::planes::cells_in;
+use trace_card_tests::model::planner::{cells_of_plan, exhaustive, front, plans_of, Goal, Planned};
 use trace_card_tests::model::{open, Opened, Refusal};
 use trace_card_tests::random::cases::{Case, CURVES, LARGE_SIZES};
 use trace_card_tests::random::sheets::{sheet, Kind, KINDS};
@@ -61,27 +64,35 @@ fn check_goals(random: &mut Random, card: &[u8], method: Method, goals: usize) {
     }
 }
 
+/// Another plan with the cells and the figure of the one answered: only the last rule decides.
+fn has_tie(opened: &Opened, goal: Goal) -> bool {
+    let Some(best) = exhaustive(opened, goal) else {
+        return false;
+    };
+    every_plan(opened).into_iter().any(|plan| {
+        plan != best.plan
+            && cells_of_plan(opened, &plan) == best.cells
+            && figure_of(opened, &plan) == best.figure
+    })
+}
+
+/// Few enough plans to try them all, and at least two layers to choose between.
+fn is_worth_trying(opened: &Opened) -> bool {
+    let loaded = opened.planes.iter().filter(|&&planes| planes > 0).count();
+    loaded >= 2 && plans_of(opened) <= 3000
+}
+
 #[test]
 fn every_plan_of_small_cards() {
     let mut random = Random::new(541);
     let mut tried = 0;
-    while tried < 600 {
-        let (rows, cols) = random.pick(&[
-            (1, 3),
-            (1, 9),
-            (2, 2),
-            (3, 5),
-            (4, 4),
-            (5, 1),
-            (1, 1),
-            (6, 3),
-        ]);
-        let kind = random.pick(&[Kind::Quiet, Kind::Flat, Kind::Quiet, Kind::Smooth]);
+    while tried < 400 {
+        let (rows, cols) = random.pick(&[(1, 3), (1, 9), (2, 2), (3, 5), (4, 4), (5, 1), (6, 3)]);
+        let kind = random.pick(&[Kind::Quiet, Kind::Smooth, Kind::Noise]);
         let mut case = Case::of_kind(&mut random, kind, rows, cols);
-        case.levels = random.below(4);
+        case.levels = 1 + random.below(3);
         let card = written(&case);
-        let opened = open(&card).unwrap();
-        if plans_of(&opened) > 3000 {
+        if !is_worth_trying(&open(&card).unwrap()) {
             continue;
         }
         tried += 1;
@@ -89,44 +100,46 @@ fn every_plan_of_small_cards() {
     }
 }
 
-/// Headers with any counts: layers with no planes, empty layers, ties, large steps.
+/// Headers with any counts: planes of one cell and of several, layers with no planes, empty
+/// layers, large steps; and ties, which are counted.
 #[test]
 fn every_plan_of_made_up_headers() {
     let mut random = Random::new(542);
-    let mut tried = 0;
-    while tried < 600 {
-        let case = Case::small(&mut random);
+    let (mut tried, mut wide, mut ties) = (0, 0, 0);
+    while tried < 400 {
+        let mut case = if random.once_in(2) {
+            Case::small(&mut random)
+        } else {
+            let (rows, cols) = random.pick(&[(40, 40), (64, 20), (33, 65), (1, 1000), (90, 91)]);
+            Case::of_size(&mut random, rows, cols)
+        };
+        case.levels = random.below(4);
         let opened = open(&written(&case)).unwrap();
+        let ends = [1, 2, 4, 9, 24];
         let planes: Vec<u64> = opened
             .points
             .iter()
             .map(|&points| {
-                let end = if points == 0 {
-                    1
-                } else {
-                    random.pick(&[1, 2, 4, 24])
-                };
+                let end = if points == 0 { 1 } else { random.pick(&ends) };
                 random.below(end)
             })
             .collect();
-        let plans: u64 = planes.iter().map(|&count| count + 1).product();
-        if plans > 3000 {
-            continue;
-        }
-        tried += 1;
-        let cells = planes
-            .iter()
-            .zip(&opened.points)
-            .map(|(&count, &points)| count * points.div_ceil(256))
-            .sum();
-        let header = Opened {
+        let cells = cells_in(&planes, &opened.points);
+        let opened = Opened {
             planes,
             cells,
             ..opened
+        };
+        if !is_worth_trying(&opened) {
+            continue;
         }
-        .print();
-        check_goals(&mut random, &header, exhaustive, 6);
+        tried += 1;
+        wide += u64::from(opened.points.iter().any(|&points| points > 256));
+        let goal = Goal::Cells(random.below(opened.cells + 1));
+        ties += u64::from(has_tie(&opened, goal));
+        check_goals(&mut random, &opened.print(), exhaustive, 6);
     }
+    assert!(wide > 50 && ties > 20, "{wide} {ties}");
 }
 
 #[test]

@@ -3,7 +3,8 @@
 use super::both::{reach, written, Call, Slices};
 use trace_card_tests::boundary::{self, ANSWER, PLAN};
 use trace_card_tests::model::{open, plan::plan_of, planes::whole_planes, Plan};
-use trace_card_tests::random::cases::{Case, LARGE_SIZES};
+use trace_card_tests::random::cases::{Case, CURVES, LARGE_SIZES};
+use trace_card_tests::random::sheets::Kind;
 use trace_card_tests::random::Random;
 
 /// A plan that asks about as much as there is, and now and then too much.
@@ -46,13 +47,20 @@ fn every_cut_of_small_cards() {
 fn cuts_of_the_largest_cards() {
     let mut random = Random::new(512);
     for (rows, cols) in LARGE_SIZES {
-        let case = Case::of_size(&mut random, rows, cols);
-        let card = written(&case);
-        for _ in 0..8 {
-            let length = random.below(card.len() as u64 + 1) as usize;
-            show_and_read(&mut random, &card[..length], case.count());
+        for curve in CURVES {
+            for kind in [Kind::Smooth, Kind::Noise] {
+                let mut case = Case::of_kind(&mut random, kind, rows, cols);
+                (case.curve, case.levels) = (curve, random.pick(&[3, 6]));
+                let card = written(&case);
+                let header = open(&card).unwrap().header_length;
+                for _ in 0..4 {
+                    let behind = random.below((card.len() - header) as u64 + 1) as usize;
+                    show_and_read(&mut random, &card[..header + behind], case.count());
+                }
+                show_and_read(&mut random, &card, case.count());
+                show_and_read(&mut random, &card[..header - 1], case.count());
+            }
         }
-        show_and_read(&mut random, &card, case.count());
     }
 }
 

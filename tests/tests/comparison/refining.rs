@@ -3,7 +3,8 @@
 use super::both::{reach, written, Call, Slices};
 use trace_card_tests::boundary::PLAN;
 use trace_card_tests::model::{open, Plan};
-use trace_card_tests::random::cases::{Case, LARGE_SIZES};
+use trace_card_tests::random::cases::{Case, CURVES, LARGE_SIZES};
+use trace_card_tests::random::sheets::Kind;
 use trace_card_tests::random::Random;
 
 /// Refines in turn from a reading of no planes. "In a list of refinements each call takes the
@@ -52,11 +53,12 @@ fn small_cards_whole_and_cut() {
     assert!(accepted > 1000, "{accepted}");
 }
 
-/// A damaged plane is met when it is asked for, and refused each time.
+/// A damaged plane is met when it is asked for, and refused each time it is.
 #[test]
 fn damaged_cards() {
     let mut random = Random::new(522);
-    for _ in 0..200 {
+    let mut met = 0;
+    for _ in 0..400 {
         let case = Case::small(&mut random);
         let mut card = written(&case);
         let header = open(&card).unwrap().header_length;
@@ -65,17 +67,39 @@ fn damaged_cards() {
             card[place] ^= 1 << random.below(8);
         }
         refine_in_turn(&mut random, &card, case.count(), 30);
+        // From no planes, one layer until it is refused, and then once more.
+        let mut slices = Slices::new(case.count());
+        let mut plan = [0; PLAN];
+        let layer = random.below(3);
+        if reach(&card, Call::Read(&plan), &mut slices).is_err() {
+            continue;
+        }
+        let refused = loop {
+            match reach(&card, Call::Refine(&plan, layer), &mut slices) {
+                Ok(reached) => plan = reached.plan,
+                Err(refusal) => break refusal,
+            }
+        };
+        let again = reach(&card, Call::Refine(&plan, layer), &mut slices);
+        assert_eq!(again, Err(refused));
+        met += u64::from(refused.number == 8);
     }
+    assert!(met > 20, "{met}");
 }
 
 #[test]
 fn the_largest_cards() {
     let mut random = Random::new(523);
+    let mut accepted = 0;
     for (rows, cols) in LARGE_SIZES {
-        let case = Case::of_size(&mut random, rows, cols);
-        let card = written(&case);
-        refine_in_turn(&mut random, &card, case.count(), 12);
+        for curve in CURVES {
+            let mut case = Case::of_kind(&mut random, Kind::Noise, rows, cols);
+            (case.curve, case.levels) = (curve, 6);
+            let card = written(&case);
+            accepted += refine_in_turn(&mut random, &card, case.count(), 12);
+        }
     }
+    assert!(accepted > 100, "{accepted}");
 }
 
 /// Coefficients that no reading made, at the ends of 23 digits and past them.
@@ -123,23 +147,23 @@ fn coefficients_made_up() {
 #[test]
 fn plans_and_lengths() {
     let mut random = Random::new(525);
+    let mut met = [0; 12];
     for _ in 0..600 {
         let case = Case::small(&mut random);
         let card = written(&case);
+        let n = case.count();
         let mut plan: Plan = [0; PLAN];
-        plan[random.below(13) as usize] = random.pick(&[1, 22, 23, 24, u64::MAX]);
-        let layer = random.pick(&[0, 1, 12, 13, u64::MAX]);
-        let _ = reach(
-            &card,
-            Call::Refine(&plan, layer),
-            &mut Slices::new(case.count()),
-        );
-        let mut short = Slices::of_lengths(case.count(), case.count() - 1);
-        assert_eq!(
-            reach(&card, Call::Refine(&plan, layer), &mut short)
-                .unwrap_err()
-                .number,
-            3
-        );
+        if random.once_in(2) {
+            plan[random.below(13) as usize] = random.pick(&[1, 22, 23, 24, u64::MAX]);
+        }
+        let layer = random.pick(&[0, 1, 2, 12, 13, u64::MAX]);
+        let refine = |slices: &mut Slices| match reach(&card, Call::Refine(&plan, layer), slices) {
+            Ok(_) => 0,
+            Err(refusal) => refusal.number,
+        };
+        met[refine(&mut Slices::holding(&vec![1; n])) as usize] += 1;
+        assert_eq!(refine(&mut Slices::of_lengths(n, n - 1)), 3);
+        assert_eq!(refine(&mut Slices::of_lengths(n + 1, n)), 3);
     }
+    assert!(met[0] > 50 && met[9] > 50, "{met:?}");
 }

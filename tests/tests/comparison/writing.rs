@@ -1,13 +1,12 @@
-//! Writing.
+//! Writing, and showing what was written, whole and half.
 
-use super::both::{curve_number, write, written};
+use super::both::{curve_number, reach, write, written, Call, Slices};
 use trace_card_tests::boundary::{self, ANSWER};
-use trace_card_tests::model::{Curve, Refusal};
+use trace_card_tests::model::write::OUTPUT_BYTES as OUTPUT;
+use trace_card_tests::model::{open, Curve, Refusal};
 use trace_card_tests::random::cases::{Case, CURVES, LARGE_SIZES};
 use trace_card_tests::random::sheets::{sheet, Kind, KINDS};
 use trace_card_tests::random::Random;
-
-const OUTPUT: usize = 32_768;
 
 fn case(rows: u64, cols: u64, levels: u64, step: u64, samples: Vec<i32>) -> Case {
     Case {
@@ -37,14 +36,20 @@ fn every_level_curve_and_kind_of_sheet() {
                 for step in [0, 1, 2, 1000, 65_535] {
                     for (rows, cols) in [(1, 1), (2, 3), (1, 40), (40, 1), (17, 33), (65, 9)] {
                         let samples = sheet(&mut random, kind, rows, cols);
-                        written(&Case {
+                        let case = Case {
                             rows,
                             cols,
                             levels,
                             curve,
                             step,
                             samples,
-                        });
+                        };
+                        let card = written(&case);
+                        let header = open(&card).unwrap().header_length;
+                        for length in [card.len(), (header + card.len()) / 2] {
+                            let mut slices = Slices::new(case.count());
+                            assert!(reach(&card[..length], Call::Show, &mut slices).is_ok());
+                        }
                     }
                 }
             }
