@@ -14,6 +14,7 @@ use header::CELL_POINTS;
 use layers::MOST_LAYERS;
 use layers::Shape;
 
+// The weights of the odd places of 23 digits: what a word adds to its coefficient.
 pub(crate) const OFFSET: u32 = 2796202;
 
 const SIGNED_OFFSET: i32 = OFFSET as i32;

@@ -1,4 +1,4 @@
--- An input that is longer than any card: line by line, opening its first bytes and opening all of it answer alike, but that a line without an end in the first bytes has one in the rest, and is then wrong. It is never accepted.
+-- An input that is longer than any card: line by line, opening its first bytes and opening all of it answer alike, but that a line without an end in the first bytes has one in the rest, and is then wrong.
 use mathlib.Core.Bool.{Bool, true, false, cond}
 use mathlib.Core.List.{List, _++_}
 use mathlib.Core.Option.{Option, none, some}

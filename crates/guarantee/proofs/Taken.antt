@@ -1,4 +1,4 @@
--- A reading that is not refused. It tests that the bytes open, that the slices are long enough, that the plan asks for whole planes alone and that none of these is bad; so where all is well it answers by the card and the plan alone, whatever the slices held, and where it is not refused all is well.
+-- A reading that is not refused. It tests that the bytes open, that the slices are as long as the sheet, that the plan asks for whole planes alone and that none of these is bad; so where all is well it answers by the card and the plan alone, whatever the slices held, and where it is not refused all is well.
 use mathlib.Core.Bool.{true, false, not, _&&_}
 use mathlib.Core.List.{List}
 use mathlib.Core.Path.{_≡_, refl, ap, ap₂, _∙_, subst}

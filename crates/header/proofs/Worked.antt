@@ -1,4 +1,4 @@
--- The bench card of document 01, by computation: its header's text, what opening makes of it and of one byte less, the figures of three plans, and the whole planes of three cuts.
+-- The bench card of document 01, by computation: its header's text, what opening makes of it and of one byte less, the figures of three plans, and the whole planes of some cuts.
 use mathlib.Core.List.{List, [], _∷_}
 use mathlib.Core.Path.{_≡_, refl}
 use Prim.Native.Nat.{ℕ}

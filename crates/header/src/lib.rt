@@ -22,8 +22,8 @@ pub use planes::total_cells;
 pub use planes::whole_planes;
 pub use printing::header_text;
 
-// Document 01's sizes of a card: digits of a coefficient, the bytes of a cell and the points that it holds, the most cells (one plane
-// of every layer is at most 44), and room for any header's text.
+// Document 01's sizes of a card: digits of a coefficient, the bytes of a cell and the points that it holds, and the most cells, since one
+// plane of every layer is at most 44.
 pub const MOST_PLACES: u64 = 23;
 
 pub const CELL_BYTES: usize = 32;
@@ -32,6 +32,7 @@ pub const CELL_POINTS: usize = 8 * CELL_BYTES;
 
 pub const MOST_CELLS: usize = MOST_PLACES as usize * 44;
 
+// Room for any header's text.
 pub const MOST_TEXT: usize = 512;
 
 // Document 01's refusals; `details_of` gives their numbers.

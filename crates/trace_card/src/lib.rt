@@ -1,9 +1,9 @@
 // The C boundary: the calls with numbers and slices alone, as include/trace_card.h has them.
-// Numbers in an answer.
-pub(crate) const ANSWER: usize = 24;
-
 mod answer;
 mod figure;
 mod planning;
 mod reading;
 mod writing;
+
+// Numbers in an answer.
+pub(crate) const ANSWER: usize = 24;

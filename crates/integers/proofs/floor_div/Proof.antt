@@ -1,4 +1,4 @@
--- A negative x is -1 - n for the natural n that the cast gives, and floorDiv goes by the same two cases. Assumes nothing.
+-- A negative x is -1 - n for the natural n that the cast gives, and floorDiv goes by the same two cases.
 use mathlib.Core.Path.{_≡_, refl, sym, ap, _∙_}
 use native.Mathlib.Nat.{div-le-self}
 use native.Mathlib.Omega.{arith}

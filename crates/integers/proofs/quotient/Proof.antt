@@ -1,20 +1,16 @@
+-- The machine divides as the naturals do, but for 0, by which a natural gives 0.
 use mathlib.Core.Path.{_≡_, sym}
 use native.Mathlib.Nat.{div-zero}
 use borrow.Author.Needs.{needs}
 use Rattle.integers.proofs.quotient.Statement.{statement}
 use Rattle.integers.proofs.quotient.Tie as tie
-use Rattle.integers.proofs.quotient.Reads as reads
-use Rattle.integers.proofs.quotient.Lts as lts
 
--- src/lib.rt:10:28
 div-result : tie.Need-div-result
 div-result c = search needs
 
--- src/lib.rt:7:1
 returns : tie.Need-returns
 returns c = rw (c .if1 .taken) (sym (div-zero (c .before .args .n)))
 
--- src/lib.rt:7:1
 returns-2 : tie.Need-returns-2
 returns-2 c = search needs
 

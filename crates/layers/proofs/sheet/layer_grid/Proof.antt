@@ -1,4 +1,4 @@
--- Each branch is a case of `gridding`, by what its test told. Assumes nothing.
+-- Each branch is a case of `gridding`, by what its test told.
 use mathlib.Core.Path.{_≡_, sym, _∙_}
 use mathlib.Core.Bool.{true, false}
 use native.Mathlib.Omega.{arith}
