@@ -3,7 +3,7 @@
 use super::header::{open, print};
 use super::layers::{quantize, rebuild, Grid};
 use super::planes::{gather, is_fine, load, put, spread, OFFSET, WORDS};
-use super::{refused, Header, Plan, CELL, PLACES};
+use super::{refused, Header, Plan, CELL, LAYERS, PLACES};
 use crate::model::{Curve, Reached, Refusal};
 
 #[allow(clippy::too_many_arguments)]
@@ -42,43 +42,35 @@ pub fn write(
             details: [(at / cols) as u64, (at % cols) as u64],
         });
     }
-    quantize(
-        samples,
-        rows,
-        cols,
-        levels,
-        curve,
-        step,
-        coefficients,
-        values,
-    );
-    let mut words = [OFFSET as u32; WORDS];
-    let planes = gather(coefficients, rows, cols, levels, &mut words);
     let mut header = Header {
         rows,
         cols,
         levels,
         curve,
         step,
-        planes,
+        planes: [0; LAYERS],
         cells: 0,
     };
+    quantize(&header, samples, coefficients, values);
+    let mut words = [OFFSET as u32; WORDS];
+    header.planes = gather(&header, coefficients, &mut words);
     let widths = header.widths();
-    header.cells = planes
+    header.cells = header
+        .planes
         .iter()
         .zip(widths)
         .map(|(&count, width)| count * width as u64)
         .sum();
     let length = print(&header, output);
     let end = length + header.cells as usize * CELL;
-    put(&words, &planes, &widths, &mut output[length..end]);
+    put(&words, &header.planes, &widths, &mut output[length..end]);
     Ok(end as u64)
 }
 
 /// The planes that are whole in the bytes behind the header.
 fn whole(header: &Header, body: &[u8]) -> Plan {
     let widths = header.widths();
-    let mut whole = [0; super::LAYERS];
+    let mut whole = [0; LAYERS];
     let mut end = 0;
     for p in (0..PLACES).rev() {
         for layer in 0..header.layers() {
@@ -103,15 +95,7 @@ pub fn show(card: &[u8], coefficients: &mut [i32], values: &mut [i64]) -> Result
     let mut words = [0; WORDS];
     load(&header, body, &plan, &mut words).map_err(|layer| Refusal::with(8, layer))?;
     spread(&header, &words, coefficients);
-    rebuild(
-        coefficients,
-        header.rows,
-        header.cols,
-        header.levels,
-        header.curve,
-        header.step,
-        values,
-    );
+    rebuild(&header, coefficients, values);
     Ok(Reached {
         plan,
         figure: header.figure(&plan),
@@ -162,15 +146,7 @@ pub fn refine(
     for (i, at) in grid.places(header.rows, header.cols).enumerate() {
         coefficients[at] += i32::from(plane[i / 8] >> (i % 8) & 1) * weight;
     }
-    rebuild(
-        coefficients,
-        header.rows,
-        header.cols,
-        header.levels,
-        header.curve,
-        header.step,
-        values,
-    );
+    rebuild(&header, coefficients, values);
     let mut reached = *plan;
     reached[k] += 1;
     Ok(Reached {

@@ -1,5 +1,6 @@
 //! Layers as grids: quantizing and rebuilding in place.
 
+use super::Header;
 use crate::model::Curve;
 
 /// The rows and columns of a layer, and the way its points look.
@@ -88,17 +89,11 @@ fn predict(
 
 /// Every point of the sheet, layer by layer, with what is predicted there.
 #[inline(always)]
-fn each_point(
-    rows: usize,
-    cols: usize,
-    levels: usize,
-    curve: Curve,
-    values: &mut [i64],
-    mut make: impl FnMut(usize, i64) -> i64,
-) {
-    let cubic = curve == Curve::Cubic;
-    for layer in 0..=2 * levels {
-        let g = Grid::of(levels, layer);
+fn each_point(header: &Header, values: &mut [i64], mut make: impl FnMut(usize, i64) -> i64) {
+    let (rows, cols) = (header.rows, header.cols);
+    let cubic = header.curve == Curve::Cubic;
+    for layer in 0..header.layers() {
+        let g = Grid::of(header.levels, layer);
         for row in (g.row..rows).step_by(g.down) {
             for col in (g.col..cols).step_by(g.right) {
                 let at = row * cols + col;
@@ -115,37 +110,21 @@ fn each_point(
     }
 }
 
-#[allow(clippy::too_many_arguments)]
-pub fn quantize(
-    samples: &[i32],
-    rows: usize,
-    cols: usize,
-    levels: usize,
-    curve: Curve,
-    step: u64,
-    coefficients: &mut [i32],
-    values: &mut [i64],
-) {
-    let step = step as i64;
+/// Samples to coefficients and values.
+pub fn quantize(header: &Header, samples: &[i32], coefficients: &mut [i32], values: &mut [i64]) {
+    let step = header.step as i64;
     let width = 2 * step + 1;
-    each_point(rows, cols, levels, curve, values, |at, predicted| {
+    each_point(header, values, |at, predicted| {
         let q = (i64::from(samples[at]) - predicted + step).div_euclid(width);
         coefficients[at] = q as i32;
         predicted + q * width
     });
 }
 
-pub fn rebuild(
-    coefficients: &[i32],
-    rows: usize,
-    cols: usize,
-    levels: usize,
-    curve: Curve,
-    step: u64,
-    values: &mut [i64],
-) {
-    let width = 2 * step as i64 + 1;
-    each_point(rows, cols, levels, curve, values, |at, predicted| {
+/// Coefficients to values.
+pub fn rebuild(header: &Header, coefficients: &[i32], values: &mut [i64]) {
+    let width = 2 * header.step as i64 + 1;
+    each_point(header, values, |at, predicted| {
         predicted + i64::from(coefficients[at]) * width
     });
 }

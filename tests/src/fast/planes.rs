@@ -10,17 +10,12 @@ pub const WORDS: usize = 44 * 8 * CELL;
 pub const OFFSET: i32 = 2_796_202;
 
 /// Lays the words of the coefficients, and answers the digits that each layer needs.
-pub fn gather(
-    coefficients: &[i32],
-    rows: usize,
-    cols: usize,
-    levels: usize,
-    words: &mut [u32; WORDS],
-) -> Plan {
+pub fn gather(header: &Header, coefficients: &[i32], words: &mut [u32; WORDS]) -> Plan {
+    let (rows, cols) = (header.rows, header.cols);
     let mut planes = [0; LAYERS];
     let mut start = 0;
-    for (layer, planes) in planes.iter_mut().enumerate().take(2 * levels + 1) {
-        let grid = Grid::of(levels, layer);
+    for (layer, planes) in planes.iter_mut().enumerate().take(header.layers()) {
+        let grid = Grid::of(header.levels, layer);
         let size = grid.size(rows, cols);
         let (mut least, mut most) = (0, 0);
         for (word, at) in words[start..].iter_mut().zip(grid.places(rows, cols)) {
