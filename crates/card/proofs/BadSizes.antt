@@ -1,40 +1,34 @@
--- When a sheet's size is refused: by its tests one after the other; a size above the most points makes the product so too, where the other is not 0.
-use mathlib.Core.Path.{_≡_, sym, _∙_}
-use mathlib.Core.Bool.{true, false, true≢false, _||_}
-use Prim.Native.Nat.{ℕ, _*_, _<_, _≤_}
-use native.Mathlib.Nat.{mul-le-mul-left, mul-le-mul-right}
+-- A size is refused just where no sheet has it: each test of `badSizes` is one of those of `sized`, turned over.
+use mathlib.Core.Path.{_≡_, refl, sym, ap, _∙_}
+use mathlib.Core.Bool.{Bool, true, false, not, _&&_, _||_}
+use Prim.Native.Nat.{ℕ, _*_}
 use native.Mathlib.Omega.{arith}
-use lib.Dec.{ltb, eqb}
-use borrow.Author.Tests.{lt-ltb, eq-eqb, ne-eqb, ltb-false}
-use Rattle.integers.proofs.Bools.{or-left, or-right}
+use lib.Dec.{ltb, leb, eqb}
+use borrow.Author.Tests.{leb-true, leb-false, lt-ltb, le-ltb, eq-eqb, ne-eqb}
+use Rattle.integers.proofs.Bools.{by}
 use Rattle.layers.specs.Limits.{pointsMost}
+use Rattle.layers.specs.Sheet.{sized}
 use Rattle.card.specs.Writing.{badSizes}
 
-module _ (rows cols : ℕ) where
-  pub no-rows : rows ≡ 0 → badSizes rows cols ≡ true
-  unfolding badSizes
-  no-rows e = or-left (eqb rows 0) (eqb cols 0 || ltb pointsMost (rows * cols)) (eq-eqb rows 0 e)
+none : (n : ℕ) → eqb n 0 ≡ not (leb 1 n)
+none n =
+    by (leb 1 n)
+    (λ y. ne-eqb n 0 (λ z. omega (arith, leb-true 1 n y)) ∙ ap not (sym y))
+    (λ f. eq-eqb n 0 (omega (arith, leb-false 1 n f)) ∙ ap not (sym f))
 
-  pub no-cols : cols ≡ 0 → badSizes rows cols ≡ true
-  unfolding badSizes
-  no-cols e = or-right (eqb rows 0) (eqb cols 0 || ltb pointsMost (rows * cols)) (or-left (eqb cols 0) (ltb pointsMost (rows * cols)) (eq-eqb cols 0 e))
+above : (m n : ℕ) → ltb m n ≡ not (leb n m)
+above m n =
+    by (leb n m)
+    (λ y. le-ltb m n (leb-true n m y) ∙ ap not (sym y))
+    (λ f. lt-ltb m n (leb-false n m f) ∙ ap not (sym f))
 
-  pub too-many : pointsMost < rows * cols → badSizes rows cols ≡ true
-  unfolding badSizes
-  too-many h = or-right (eqb rows 0) (eqb cols 0 || ltb pointsMost (rows * cols)) (or-right (eqb cols 0) (ltb pointsMost (rows * cols)) (lt-ltb pointsMost (rows * cols) h))
+not-all : (a b c : Bool) → not a || (not b || not c) ≡ not ((a && b) && c)
+not-all true true c = refl
+not-all true false c = refl
+not-all false b c = refl
 
-  pub too-tall : (cols ≡ 0 → ⊥) → pointsMost < rows → badSizes rows cols ≡ true
-  too-tall n h = let some : 0 < cols = omega arith in too-many (omega (arith, mul-le-mul-left rows some))
-
-  pub too-wide : (rows ≡ 0 → ⊥) → pointsMost < cols → badSizes rows cols ≡ true
-  too-wide n h = let some : 0 < rows = omega arith in too-many (omega (arith, mul-le-mul-right cols some))
-
-  pub left-over : (rows ≡ 0 → ⊥) → (cols ≡ 0 → ⊥) → badSizes rows cols ≡ ltb pointsMost (rows * cols)
-  unfolding badSizes
-  left-over r c = rw (ne-eqb rows 0 r, ne-eqb cols 0 c)
-
-  pub good-sizes : badSizes rows cols ≡ false → (0 < rows) × (0 < cols) × (rows * cols ≤ pointsMost)
-  good-sizes e =
-      let r : rows ≡ 0 → ⊥ = λ z. true≢false (sym (no-rows z) ∙ e) in
-      let c : cols ≡ 0 → ⊥ = λ z. true≢false (sym (no-cols z) ∙ e) in
-      (omega arith, omega arith, ltb-false pointsMost (rows * cols) (sym (left-over r c) ∙ e))
+pub bad-sizes : (rows cols : ℕ) → badSizes rows cols ≡ not (sized rows cols)
+unfolding badSizes sized
+bad-sizes rows cols =
+    (λ i. none rows i || (none cols i || above pointsMost (rows * cols) i))
+    ∙ not-all (leb 1 rows) (leb 1 cols) (leb (rows * cols) pointsMost)

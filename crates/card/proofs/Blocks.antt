@@ -1,4 +1,4 @@
--- Where the layers' words lie: a block begins where the one before it ends, so blocks lie apart, and all of them together are 256 words for each cell of one plane of every layer, of which there are at most 44. Every place before their end stands in one of them.
+-- Where the layers' words lie: a block begins where the one before it ends, so blocks lie apart, and all of them together are `cellPoints` words for each cell of one plane of every layer, of which there are at most `placeCellsMost`. Every place before their end stands in one of them.
 use mathlib.Core.Path.{_≡_, refl}
 use mathlib.Core.Bool.{true}
 use Prim.Native.Nat.{ℕ, zero, suc, _+_, _-_, _*_, _<_, _≤_}

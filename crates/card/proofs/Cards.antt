@@ -7,7 +7,7 @@ use native.Mathlib.Omega.{arith}
 use borrow.Author.Tests.{eq-eqb, ltb-true, eqb-true}
 use lib.Dec.{ltb, eqb}
 use lib.IntN.{ℤ}
-use lib.ListN.{length, getD, take, drop, length-append, length-take}
+use lib.ListN.{length, getD, drop, length-append}
 use lib.Seq.{sets, sets-eq}
 use Rattle.integers.proofs.Bools.{by}
 use Rattle.digits.specs.Digits.{holds}
@@ -106,34 +106,27 @@ module _ (sh : Shape) (ok : accepted sh ≡ true) (curve : Curve) (e : ℕ) (ste
   pub down-is : flatDown sh planes ws placesMost ≡ body H qs
   down-is = ap (λ (a : List ℕ). flatDown sh a ws placesMost) planes-are ∙ flat-body H qs ws all (λ j hj. held j)
 
-  module _ (cells : ℕ) (named : cells ≡ cellsNamed sh planes) (bytes : List ℕ) (n : ℕ)
-      (long : n ≡ length (headerText (record { shape = sh; curve = curve; step = e; planes = planes; cells = cells })))
-      (text : take n bytes ≡ headerText (record { shape = sh; curve = curve; step = e; planes = planes; cells = cells })) where
-    text-is : take n bytes ≡ headerText H
-    text-is = text ∙ header-is cells named
+  module _ (cells : ℕ) (named : cells ≡ cellsNamed sh planes) where
+    pub text-short : length (headerText (record { shape = sh; curve = curve; step = e; planes = planes; cells = cells })) ≤ outputLeast
+    text-short = omega (arith, ap length (header-is cells named), right-fits (header-right sh ok qs curve e step))
 
-    long-is : n ≡ length (headerText H)
-    long-is = long ∙ ap length (header-is cells named)
+    module _ (n : ℕ) (long : n ≡ length (headerText (record { shape = sh; curve = curve; step = e; planes = planes; cells = cells }))) where
+      long-is : n ≡ length (headerText H)
+      long-is = long ∙ ap length (header-is cells named)
 
-    pub text-short : n ≤ 384
-    text-short = omega (arith, long-is, right-fits (header-right sh ok qs curve e step))
+      -- there is room for all
+      pub room : n + length (flatDown sh planes ws placesMost) ≤ outputLeast
+      room = omega (arith, long-is, ap length down-is, card-length sh ok qs curve e step, card-most sh ok qs curve e step)
 
-    pub text-there : n ≤ length bytes
-    text-there = omega (arith, ap length text, length-take n bytes, long)
+      pub answer : (r : ℕ) → r ≡ n + length (flatDown sh planes ws placesMost) → r ≡ length (cardOf sh curve e qs)
+      answer r x = omega (arith, long-is, ap length down-is, card-length sh ok qs curve e step)
 
-    -- there is room for all
-    pub room : n + length (flatDown sh planes ws placesMost) ≤ outputLeast
-    room = omega (arith, long-is, ap length down-is, card-length sh ok qs curve e step, card-most sh ok qs curve e step)
-
-    pub answer : (r : ℕ) → r ≡ n + length (flatDown sh planes ws placesMost) → r ≡ length (cardOf sh curve e qs)
-    answer r x = omega (arith, long-is, ap length down-is, card-length sh ok qs curve e step)
-
-    pub output-is : (out mid end : List ℕ) → outputLeast ≤ length out → mid ≡ sets out 0 (take n bytes) → end ≡ sets mid n (flatDown sh planes ws placesMost)
-        → end ≡ cardOf sh curve e qs ++ drop (length (cardOf sh curve e qs)) out
-    output-is out mid end enough a b =
-        let whole : sets (sets out 0 (headerText H)) (0 + length (headerText H)) (body H qs) ≡ sets out 0 (cardOf sh curve e qs) =
-        unfold cardOf in (sets-sets out 0 (headerText H) (body H qs)) in
-        let from : n ≡ 0 + length (headerText H) = omega (arith, long-is) in
-        b ∙ ap₂ (λ (x : List ℕ) (y : List ℕ). sets x n y) (a ∙ ap (sets out 0) text-is) down-is
-        ∙ ap (λ (m : ℕ). sets (sets out 0 (headerText H)) m (body H qs)) from
-        ∙ whole ∙ sets-front out (cardOf sh curve e qs) (omega (arith, card-most sh ok qs curve e step))
+      pub output-is : (out mid end : List ℕ) → outputLeast ≤ length out → mid ≡ sets out 0 (headerText (record { shape = sh; curve = curve; step = e; planes = planes; cells = cells }))
+          → end ≡ sets mid n (flatDown sh planes ws placesMost) → end ≡ cardOf sh curve e qs ++ drop (length (cardOf sh curve e qs)) out
+      output-is out mid end enough a b =
+          let whole : sets (sets out 0 (headerText H)) (0 + length (headerText H)) (body H qs) ≡ sets out 0 (cardOf sh curve e qs) =
+          unfold cardOf in (sets-sets out 0 (headerText H) (body H qs)) in
+          let from : n ≡ 0 + length (headerText H) = omega (arith, long-is) in
+          b ∙ ap₂ (λ (x : List ℕ) (y : List ℕ). sets x n y) (a ∙ ap (sets out 0) (header-is cells named)) down-is
+          ∙ ap (λ (m : ℕ). sets (sets out 0 (headerText H)) m (body H qs)) from
+          ∙ whole ∙ sets-front out (cardOf sh curve e qs) (omega (arith, card-most sh ok qs curve e step))

@@ -4,7 +4,6 @@ use mathlib.Core.Bool.{true, cond}
 use mathlib.Core.List.{List, [], _++_, append-nil}
 use Prim.Native.Nat.{ℕ, zero, suc, _+_, _-_, _*_, _/_, _%_, _^_, _<_, _≤_}
 use native.Mathlib.Nat.{le-refl}
-use native.Mathlib.Decide.{decLt}
 use native.Mathlib.Numerals.{add-one}
 use native.Mathlib.Omega.{arith}
 use lib.Dec.{ltb, eqb}
@@ -20,7 +19,8 @@ use Rattle.digits.proofs.Offset.{flipAt, digit-offset}
 use Rattle.layers.specs.declared.Shape.{Shape}
 use Rattle.layers.specs.Lists.{at}
 use Rattle.layers.specs.Sheet.{points, layers, layerSize, pointOf}
-use Rattle.layers.proofs.Lists.{length-tabulate, getD-tabulate}
+use Rattle.layers.proofs.Rises.{rises}
+use Rattle.layers.proofs.Lists.{length-tabulate, getD-tabulate, tabulate-same}
 use Rattle.layers.proofs.Places.{point-on}
 use Rattle.header.specs.declared.Header.{Header}
 use Rattle.header.specs.Header.{placesMost, cellBytes, cellPoints, planesOf, planeCells}
@@ -28,7 +28,6 @@ use Rattle.header.proofs.Stores.{Put, put-none, put-more}
 use Rattle.card.specs.Planes.{packed, planeBit, planeBytes, atPlace, downFrom, body}
 use Rattle.card.specs.Words.{offset, wordOf, blockStart, Gathered, turned, digitIn, flatPlane, flatPlace, flatDown}
 use Rattle.card.proofs.Packing.{Bits, packed-same, packed-turned}
-use Rattle.card.proofs.Runs.{tabulate-same}
 
 -- ---- a byte of digits from a byte of bits
 abbrev pub bitIn : List ℕ → ℕ → ℕ → ℕ
@@ -72,17 +71,12 @@ module _ (sh : Shape) (planes ws : List ℕ) (p : ℕ) where
   unfolding flatPlace
   place-no k h = rw (add-one k, le-ltb p (getD planes k 0) h) (append-nil (flatPlace sh planes ws p k))
 
-  pub place-next : (k : ℕ) → length (flatPlace sh planes ws p k) ≤ length (flatPlace sh planes ws p (suc k))
+  place-next : (k : ℕ) → length (flatPlace sh planes ws p k) ≤ length (flatPlace sh planes ws p (suc k))
   unfolding flatPlace
   place-next k = rw length-append (omega arith)
 
-  pub place-rises : (m n : ℕ) → m ≤ n → length (flatPlace sh planes ws p m) ≤ length (flatPlace sh planes ws p n)
-  place-rises m zero h = let e : m ≡ 0 = omega arith in rw e (le-refl _)
-  place-rises m (suc n) h =
-      elim (decLt n m) [
-        | yes l ↦ let e : m ≡ suc n = omega arith in rw e (le-refl _)
-        | no l ↦ omega (arith, place-rises m n (omega arith), place-next n)
-      ]
+  place-rises : (m n : ℕ) → m ≤ n → length (flatPlace sh planes ws p m) ≤ length (flatPlace sh planes ws p n)
+  place-rises = rises (λ k. length (flatPlace sh planes ws p k)) place-next
 
   -- a plane of layer k has room behind those of the layers before it
   pub place-room : (k : ℕ) → k < layers sh → p < getD planes k 0

@@ -1,4 +1,3 @@
-pub mod Adds
 pub mod All
 pub mod BadSizes
 pub mod Blocks
@@ -16,10 +15,10 @@ pub mod ReadCall
 pub mod ReadWords
 pub mod RefineCall
 pub mod Runs
+pub mod Scatters
 pub mod SlotOrder
 pub mod SlotTests
 pub mod Spreads
-pub mod Walk
 pub mod Weights
 pub mod WordSums
 pub mod Writes

@@ -19,6 +19,7 @@ use Rattle.layers.specs.declared.Shape.{Shape}
 use Rattle.layers.specs.Limits.{layersMost}
 use Rattle.layers.specs.Lists.{at, tabulate}
 use Rattle.layers.specs.Sheet.{layers, layerSize, pointOf, placeIn}
+use Rattle.layers.proofs.Lists.{tabulate-same}
 use Rattle.layers.proofs.Places.{point-on, point-in, place-in, point-place}
 use Rattle.header.specs.Header.{placesMost}
 use Rattle.header.proofs.Total.{plane-room}
@@ -27,7 +28,6 @@ use Rattle.card.specs.Words.{offset, wordOf, numberOf, blockStart, words
 use Rattle.card.proofs.All.{all-by, all-at, both-ways}
 use Rattle.card.proofs.Blocks.{in-block}
 use Rattle.card.proofs.HeldLayers.{enough-yes, enough-by}
-use Rattle.card.proofs.Runs.{tabulate-same}
 
 -- ---- a coefficient and its word
 module _ (q : ℤ) (h : holds placesMost q ≡ true) where

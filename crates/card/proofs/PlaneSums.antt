@@ -11,7 +11,7 @@ use lib.Dec.{ltb, leb}
 use lib.ListN.{length, getD, set, length-set, List·getD-eq-default}
 use lib.Seq.{ext-getD, getD-set-same, getD-set-other}
 use Rattle.layers.proofs.Lists.{length-tabulate, getD-tabulate}
-use Rattle.card.specs.Words.{withPlane}
+use Rattle.card.specs.Words.{wordsWith}
 
 -- a bit at place p
 pub at-most : (b p m : ℕ) → b ≤ 1 → p ≤ m → b * 2 ^ p ≤ 2 ^ m
@@ -21,30 +21,30 @@ module _ (ws : List ℕ) (start n p : ℕ) (bit : ℕ → ℕ) where
   abbrev term : ℕ → ℕ
   term j = getD ws j 0 + cond (leb start j && ltb j (start + n)) (bit (j - start) * 2 ^ p) 0
 
-  pub with-length : length (withPlane ws start n p bit) ≡ length ws
-  unfolding withPlane
+  pub with-length : length (wordsWith ws start n p bit) ≡ length ws
+  unfolding wordsWith
   with-length = length-tabulate (length ws) term
 
-  with-at : (j : ℕ) → j < length ws → getD (withPlane ws start n p bit) j 0 ≡ term j
-  unfolding withPlane
+  with-at : (j : ℕ) → j < length ws → getD (wordsWith ws start n p bit) j 0 ≡ term j
+  unfolding wordsWith
   with-at j l = getD-tabulate (length ws) term j 0 l
 
-  pub with-in : (j : ℕ) → start ≤ j → j < start + n → j < length ws → getD (withPlane ws start n p bit) j 0 ≡ getD ws j 0 + bit (j - start) * 2 ^ p
+  pub with-in : (j : ℕ) → start ≤ j → j < start + n → j < length ws → getD (wordsWith ws start n p bit) j 0 ≡ getD ws j 0 + bit (j - start) * 2 ^ p
   with-in j a b l = with-at j l ∙ rw (le-leb start j a, lt-ltb j (start + n) b)
 
-  with-past : (j : ℕ) → length ws ≤ j → getD (withPlane ws start n p bit) j 0 ≡ getD ws j 0
+  with-past : (j : ℕ) → length ws ≤ j → getD (wordsWith ws start n p bit) j 0 ≡ getD ws j 0
   with-past j l =
-      List·getD-eq-default (withPlane ws start n p bit) 0 (omega (arith, with-length))
+      List·getD-eq-default (wordsWith ws start n p bit) 0 (omega (arith, with-length))
       ∙ sym (List·getD-eq-default ws 0 l)
 
-  pub with-before : (j : ℕ) → j < start → getD (withPlane ws start n p bit) j 0 ≡ getD ws j 0
+  pub with-before : (j : ℕ) → j < start → getD (wordsWith ws start n p bit) j 0 ≡ getD ws j 0
   with-before j a =
       elim (decLt j (length ws)) [
         | yes l ↦ with-at j l ∙ rw (lt-leb start j a) (omega arith)
         | no l ↦ with-past j (omega arith)
       ]
 
-  pub with-after : (j : ℕ) → start + n ≤ j → getD (withPlane ws start n p bit) j 0 ≡ getD ws j 0
+  pub with-after : (j : ℕ) → start + n ≤ j → getD (wordsWith ws start n p bit) j 0 ≡ getD ws j 0
   with-after j a =
       elim (decLt j (length ws)) [
         | yes l ↦ let k : start ≤ j = omega arith in with-at j l ∙ rw (le-leb start j k, le-ltb j (start + n) a) (omega arith)
@@ -52,7 +52,7 @@ module _ (ws : List ℕ) (start n p : ℕ) (bit : ℕ → ℕ) where
       ]
 
   -- a word grows by at most one bit
-  pub with-most : ((i : ℕ) → bit i ≤ 1) → (j : ℕ) → getD (withPlane ws start n p bit) j 0 ≤ getD ws j 0 + 2 ^ p
+  pub with-most : ((i : ℕ) → bit i ≤ 1) → (j : ℕ) → getD (wordsWith ws start n p bit) j 0 ≤ getD ws j 0 + 2 ^ p
   with-most h j =
       elim (decLt j start) [
         | yes a ↦ omega (arith, with-before j a)
@@ -72,9 +72,9 @@ module _ (ws : List ℕ) (start n p : ℕ) (bit : ℕ → ℕ) where
       → ((j : ℕ) → j < start → getD vs j 0 ≡ getD ws j 0)
       → ((j : ℕ) → start ≤ j → j < start + n → j < length ws → getD vs j 0 ≡ getD ws j 0 + bit (j - start) * 2 ^ p)
       → ((j : ℕ) → start + n ≤ j → getD vs j 0 ≡ getD ws j 0)
-      → vs ≡ withPlane ws start n p bit
+      → vs ≡ wordsWith ws start n p bit
   with-by vs same before inside after =
-      ext-getD 0 vs (withPlane ws start n p bit) (same ∙ sym with-length)
+      ext-getD 0 vs (wordsWith ws start n p bit) (same ∙ sym with-length)
       (λ j l.
       elim (decLt j start) [
         | yes a ↦ before j a ∙ sym (with-before j a)
@@ -86,16 +86,16 @@ module _ (ws : List ℕ) (start n p : ℕ) (bit : ℕ → ℕ) where
       ])
 
 -- no bits
-pub with-none : (ws : List ℕ) (start p : ℕ) (bit : ℕ → ℕ) → ws ≡ withPlane ws start 0 p bit
+pub with-none : (ws : List ℕ) (start p : ℕ) (bit : ℕ → ℕ) → ws ≡ wordsWith ws start 0 p bit
 with-none ws start p bit =
     with-by ws start 0 p bit ws refl (λ j _. refl) (λ j a b l. absurd (let z : ⊥ = omega arith in z)) (λ j _. refl)
 
 -- one bit more
 pub with-next : (ws : List ℕ) (start n p : ℕ) (bit : ℕ → ℕ) (v : ℕ) → start + n < length ws
-    → v ≡ getD (withPlane ws start n p bit) (start + n) 0 + bit n * 2 ^ p
-    → set (withPlane ws start n p bit) (start + n) v ≡ withPlane ws start (n + 1) p bit
+    → v ≡ getD (wordsWith ws start n p bit) (start + n) 0 + bit n * 2 ^ p
+    → set (wordsWith ws start n p bit) (start + n) v ≡ wordsWith ws start (n + 1) p bit
 with-next ws start n p bit v l e =
-    let vs = withPlane ws start n p bit in
+    let vs = wordsWith ws start n p bit in
     let other : (j : ℕ) → (j ≡ start + n → ⊥) → getD (set vs (start + n) v) j 0 ≡ getD vs j 0 = λ j h. getD-set-other vs (start + n) j v 0 h in
     with-by ws start (n + 1) p bit (set vs (start + n) v) (length-set vs (start + n) v ∙ with-length ws start n p bit)
     (λ j a. other j (λ q. let z : ⊥ = omega arith in z) ∙ with-before ws start n p bit j a)
@@ -114,10 +114,10 @@ with-next ws start n p bit v l e =
 
 -- a run behind a run
 pub with-run : (ws : List ℕ) (start n m p : ℕ) (f g : ℕ → ℕ) → ((i : ℕ) → i < m → g i ≡ f (n + i))
-    → withPlane (withPlane ws start n p f) (start + n) m p g ≡ withPlane ws start (n + m) p f
+    → wordsWith (wordsWith ws start n p f) (start + n) m p g ≡ wordsWith ws start (n + m) p f
 with-run ws start n m p f g h =
-    let vs = withPlane ws start n p f in
-    with-by ws start (n + m) p f (withPlane vs (start + n) m p g) (with-length vs (start + n) m p g ∙ with-length ws start n p f)
+    let vs = wordsWith ws start n p f in
+    with-by ws start (n + m) p f (wordsWith vs (start + n) m p g) (with-length vs (start + n) m p g ∙ with-length ws start n p f)
     (λ j a. with-before vs (start + n) m p g j (omega arith) ∙ with-before ws start n p f j a)
     (λ j a b l.
     elim (decLt j (start + n)) [

@@ -1,10 +1,10 @@
--- Reading, by what each step answers: planes that are not fine are refused; fine ones give the coefficients of the words and the values rebuilt from them; and a plan within the whole planes loads planes that are in the bytes.
+-- Reading, by what each step answers: the lengths and the plan are checked first, and a plan within the whole planes loads planes that are in the bytes; planes that are not fine are refused; fine ones give the coefficients of the words and the values rebuilt from them.
 use mathlib.Core.Bool.{Bool, true, false}
-use mathlib.Core.List.{List, [], _∷_, _++_}
+use mathlib.Core.List.{List, _++_}
 use mathlib.Core.Path.{_≡_, sym, ap, _∙_}
 use Prim.Native.Nat.{ℕ, _-_, _<_, _≤_}
 use native.Mathlib.Omega.{arith}
-use borrow.Author.Tests.{lt-ltb, le-ltb, le-leb, eqb-true, eq-eqb, ne-eqb}
+use borrow.Author.Tests.{ltb-false, lt-ltb, le-ltb, le-leb, eqb-true, eq-eqb, ne-eqb}
 use lib.Dec.{ltb, eqb}
 use lib.IntN.{ℤ}
 use lib.ListN.{length, drop, length-append}
@@ -15,6 +15,7 @@ use Rattle.layers.specs.Limits.{layersMost, stepMost}
 use Rattle.layers.specs.Sheet.{points}
 use Rattle.layers.proofs.Lists.{length-tabulate}
 use Rattle.header.specs.declared.Header.{Header}
+use Rattle.header.specs.declared.Details.{Details}
 use Rattle.header.specs.declared.Opened.{Opened}
 use Rattle.header.specs.declared.Plan.{Plan}
 use Rattle.header.specs.declared.Refusal.{Refusal}
@@ -26,12 +27,12 @@ use Rattle.header.specs.Opening.{Opening, opening, right}
 use Rattle.header.specs.Opening as O
 use Rattle.header.specs.CardOrder.{whole, wholePlan, wholeIn}
 use Rattle.header.specs.Figure.{figureOf, boundOf}
-use Rattle.header.proofs.Over.{over-none, none-over}
+use Rattle.header.proofs.Over.{over-le, over-none, none-over}
 use Rattle.header.proofs.Rightness.{right-yes, layers-few}
 use Rattle.header.proofs.Whole.{whole-fits, whole-most, counted-whole}
 use Rattle.header.proofs.Opens.{Opens, opened-right}
 use Rattle.header.proofs.Refusing.{opened-accepts}
-use Rattle.card.specs.Reading.{Reading, no, slots, firstBad, coefsRead, readWhole, goodLengths, readOpened, reading, showing}
+use Rattle.card.specs.Reading.{Reading, wholeOf, no, unless, slots, firstBad, coefsRead, readWhole, goodLengths, firstRefusal, afterOpening}
 use Rattle.card.specs.Words.{AllThere, loadedAs}
 use Rattle.card.specs.declared.Loaded.the-variants.{Fine, Bad}
 use Rattle.card.proofs.LayerPlanes.{whole-at, loaded-yes}
@@ -124,65 +125,81 @@ module _ (h : Header) (long : ℕ) (bs : List ℕ) (plan : Plan) (qs vs : List �
       (read-fine h long bs plan qs vs fine)
 
 -- ---- a plan within the whole planes
-module _ (h : Header) (r : right h ≡ true) (long : ℕ) (bs : List ℕ) (plan : Plan) (here : long ≤ length bs)
-    (e : firstOver (loads (wholePlan h (length bs - long))) (loads plan) ≡ layersMost) where
-  within : (k : ℕ) → k < layersMost → loads plan k ≤ whole h (length bs - long) k
+module _ (h : Header) (long : ℕ) (bs : List ℕ) (plan : Plan) (e : firstOver (loads (wholePlan h (length bs - long))) (loads plan) ≡ layersMost) where
+  pub within : (k : ℕ) → k < layersMost → loads plan k ≤ whole h (length bs - long) k
   within k l = omega (arith, over-none (loads (wholePlan h (length bs - long))) (loads plan) e k l, whole-at h (length bs - long) k l)
 
+module _ (h : Header) (r : right h ≡ true) (long : ℕ) (bs : List ℕ) (plan : Plan) (here : long ≤ length bs)
+    (e : firstOver (loads (wholePlan h (length bs - long))) (loads plan) ≡ layersMost) where
   pub plan-within : firstOver (planesOf h) (loads plan) ≡ layersMost
-  plan-within = none-over (planesOf h) (loads plan) (λ k l. omega (arith, within k l, whole-most h (length bs - long) k))
+  plan-within = none-over (planesOf h) (loads plan) (λ k l. omega (arith, within h long bs plan e k l, whole-most h (length bs - long) k))
 
   pub all-there : AllThere h long bs (loads plan)
   all-there k p hk t =
       let l = loaded-yes h long bs (loads plan) k p t in
       let few = layers-few (right-yes h r) in
       let n = length bs - long in
-      let w = counted-whole h n k hk p (l .0) (omega (arith, l .1, within k (omega arith))) in
+      let w = counted-whole h n k hk p (l .0) (omega (arith, l .1, within h long bs plan e k (omega arith))) in
       omega (arith, whole-fits h n k p w)
 
--- ---- behind an opening
-module _ (qs vs : List ℤ) (bs : List ℕ) (h : Header) (long : ℕ) (plan : Plan) where
-  pub lengths-bad : (length qs ≡ points (h .shape) → length vs ≡ points (h .shape) → ⊥) → no qs vs (refusal 3 0 0) ≡ readOpened qs vs bs h long plan
-  unfolding readOpened
-  lengths-bad n = rw (lengths-wrong qs vs h n)
+-- ---- what is checked: the lengths, then the plan
+module _ (qs vs : List ℤ) (h : Header) (whole plan : Plan) where
+  abbrev over : ℕ
+  over = firstOver (loads whole) (loads plan)
+
+  pub checked-lengths : (length qs ≡ points (h .shape) → length vs ≡ points (h .shape) → ⊥) → refusal 3 0 0 ≡ firstRefusal qs vs h whole plan
+  unfolding firstRefusal
+  checked-lengths n = rw (lengths-wrong qs vs h n)
 
   module _ (good : goodLengths qs vs h ≡ true) where
-    abbrev place : ℕ
-    place = firstOver (loads (wholePlan h (length bs - long))) (loads plan)
+    pub checked-over : over < layersMost → refusal 9 over 0 ≡ firstRefusal qs vs h whole plan
+    unfolding firstRefusal
+    checked-over l = rw (good, lt-ltb over layersMost l)
 
-    pub over-bad : place < layersMost → no qs vs (refusal 9 place 0) ≡ readOpened qs vs bs h long plan
-    unfolding readOpened
-    over-bad l = rw (good, lt-ltb place layersMost l)
+    pub checked-none : over ≡ layersMost → firstRefusal qs vs h whole plan ≡ refusal 0 0 0
+    unfolding firstRefusal
+    checked-none e = rw (good, le-ltb over layersMost (omega arith))
 
-    pub over-good : place ≡ layersMost → readWhole qs vs h long bs plan (firstBad h long bs (loads plan)) ≡ readOpened qs vs bs h long plan
-    unfolding readOpened
-    over-good l = rw (good, le-ltb place layersMost (omega arith))
+  pub checked-passes : firstRefusal qs vs h whole plan .number ≡ 0 → (goodLengths qs vs h ≡ true) × (over ≡ layersMost)
+  unfolding firstRefusal
+  checked-passes e =
+      by (goodLengths qs vs h)
+      (λ good. by (ltb over layersMost)
+      (λ y. absurd (let z : 9 ≡ 0 = rw (good, y) at e in omega arith))
+      (λ n. (good, omega (arith, ltb-false over layersMost n, over-le (loads whole) (loads plan)))))
+      (λ n. absurd (let z : 3 ≡ 0 = rw n at e in omega arith))
+
+-- as the code asks it, of the planes that are whole in the bytes
+module _ (qs vs : List ℤ) (bs : List ℕ) (h : Header) (long : ℕ) (plan : Plan) (right-header : right h ≡ true)
+    (w : Plan) (ew : w ≡ wholeIn h (length bs - long)) (r : Refusal) (er : detailsOf r ≡ firstRefusal qs vs h w plan) where
+  pub whole-here : w ≡ wholeOf bs h long
+  whole-here = ew ∙ whole-is h right-header (length bs - long)
+
+  pub checked-is : detailsOf r ≡ firstRefusal qs vs h (wholeOf bs h long) plan
+  checked-is = er ∙ ap (λ (x : Plan). firstRefusal qs vs h x plan) whole-here
+
+  pub checked-yes : r ≡ F.Accepted → (goodLengths qs vs h ≡ true) × (firstOver (loads (wholeOf bs h long)) (loads plan) ≡ layersMost)
+  checked-yes y = checked-passes qs vs h (wholeOf bs h long) plan (ap (λ (d : Details). d .number) (sym checked-is ∙ ap detailsOf y))
+
+-- ---- what a call does with a refusal: it goes on where there is none, and else answers it
+module _ (qs vs : List ℤ) (r : Refusal) (d : Details) (e : detailsOf r ≡ d) (go : Reading) where
+  pub goes-on : r ≡ F.Accepted → go ≡ unless qs vs d go
+  goes-on y = rw (← e, y)
+
+  pub stops : (detailsOf r .number ≡ 0 → ⊥) → no qs vs (detailsOf r) ≡ unless qs vs d go
+  stops n = rw (← e, ne-eqb (detailsOf r .number) 0 n)
 
 -- ---- what opening answers
-module _ (bs : List ℕ) (o : Opened) (e : O.told o ≡ opening bs) where
-  pub read-refused : (qs vs : List ℤ) (plan : Plan) → (detailsOf (o .refusal) .number ≡ 0 → ⊥) → no qs vs (detailsOf (o .refusal)) ≡ reading qs vs bs plan
-  unfolding reading
-  read-refused qs vs plan n = rw (← e, ne-eqb (detailsOf (o .refusal) .number) 0 n)
+module _ (bs : List ℕ) (o : Opened) (e : O.told o ≡ opening bs) (yes : o .refusal ≡ F.Accepted) where
+  pub opened-yes : (qs vs : List ℤ) (go : Header → ℕ → Reading) → go (o .header) (o .length) ≡ afterOpening qs vs (opening bs) go
+  opened-yes qs vs go = rw (← e, yes)
 
-  pub show-refused : (qs vs : List ℤ) → (detailsOf (o .refusal) .number ≡ 0 → ⊥) → no qs vs (detailsOf (o .refusal)) ≡ showing qs vs bs
-  unfolding showing
-  show-refused qs vs n = rw (← e, ne-eqb (detailsOf (o .refusal) .number) 0 n)
+  opens : Opens bs (opening bs .header) (opening bs .long)
+  opens = opened-right bs (opened-accepts bs o e yes)
 
-  module _ (yes : o .refusal ≡ F.Accepted) where
-    opens : Opens bs (opening bs .header) (opening bs .long)
-    opens = opened-right bs (opened-accepts bs o e yes)
-
-    pub header-here : o .length ≤ length bs
-    header-here =
-        let a : o .length ≡ opening bs .long = ap (λ (x : Opening). x .long) e in
-        let t = headerText (opening bs .header) in
-        let b : length bs ≡ length (t ++ drop (opening bs .long) bs) = ap length (opens .text-is) in
-        omega (arith, opens .length-is, length-append t (drop (opening bs .long) bs))
-
-    pub read-on : (qs vs : List ℤ) (plan : Plan) → readOpened qs vs bs (o .header) (o .length) plan ≡ reading qs vs bs plan
-    unfolding reading
-    read-on qs vs plan = rw (← e, yes)
-
-    pub show-on : (qs vs : List ℤ) → readOpened qs vs bs (o .header) (o .length) (wholePlan (o .header) (length bs - o .length)) ≡ showing qs vs bs
-    unfolding showing
-    show-on qs vs = rw (← e, yes)
+  pub header-here : o .length ≤ length bs
+  header-here =
+      let a : o .length ≡ opening bs .long = ap (λ (x : Opening). x .long) e in
+      let t = headerText (opening bs .header) in
+      let b : length bs ≡ length (t ++ drop (opening bs .long) bs) = ap length (opens .text-is) in
+      omega (arith, opens .length-is, length-append t (drop (opening bs .long) bs))

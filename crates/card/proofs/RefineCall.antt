@@ -6,8 +6,8 @@ use Prim.Native.Nat.{ℕ, suc, _+_, _*_, _-_, _^_, _<_, _≤_}
 use native.Mathlib.Decide.{ℕ-discrete, decLt}
 use native.Mathlib.Numerals.{add-one}
 use native.Mathlib.Omega.{arith}
-use borrow.Author.Tests.{lt-ltb, le-ltb, ne-eqb}
-use lib.Dec.{ltb, eqb}
+use borrow.Author.Tests.{lt-ltb, le-ltb}
+use lib.Dec.{eqb}
 use lib.IntN.{ℤ}
 use lib.ListN.{length, set, length-set, List·getD-eq-default}
 use lib.Seq.{getD-set-same, getD-set-other}
@@ -18,14 +18,11 @@ use Rattle.layers.specs.Limits.{layersMost}
 use Rattle.layers.specs.Sheet.{points, layers, layerSize}
 use Rattle.layers.proofs.Lists.{length-tabulate}
 use Rattle.header.specs.declared.Header.{Header}
-use Rattle.header.specs.declared.Opened.{Opened}
 use Rattle.header.specs.declared.Plan.{Plan}
-use Rattle.header.specs.declared.Refusal.the-variants as F
-use Rattle.header.specs.Refusals.{refusal, detailsOf}
+use Rattle.header.specs.Refusals.{refusal}
 use Rattle.header.specs.Header.{cellBytes, planesOf, planeCells}
 use Rattle.header.specs.Plan.{loads, firstOver, withPlane}
-use Rattle.header.specs.Opening.{opening, right}
-use Rattle.header.specs.Opening as O
+use Rattle.header.specs.Opening.{right}
 use Rattle.header.specs.CardOrder.{cellsBefore, cellsBeforeIn, whole, wholePlan}
 use Rattle.header.specs.Figure.{figureOf, boundOf}
 use Rattle.header.proofs.Over.{over-none, none-over}
@@ -33,10 +30,10 @@ use Rattle.header.proofs.Rightness.{right-yes, layers-few}
 use Rattle.header.proofs.Whole.{whole-fits, whole-most, counted-whole}
 use Rattle.card.specs.Reading.{Reading, fine, goodLengths}
 use Rattle.card.specs.Reading as R
-use Rattle.card.specs.Refining.{allHeld, coefsPlus, coefsWith, refinePlane, refineOpened, refining}
+use Rattle.card.specs.Refining.{allHeld, coefsPlus, coefsWith, refinePlane, refineLayer}
 use Rattle.card.specs.Words.{bitAt, fineAt}
 use Rattle.card.proofs.WordSums.{bit-of, fine-at}
-use Rattle.card.proofs.ReadCall.{rebuilt-is, bound-right, good-lengths, lengths-wrong}
+use Rattle.card.proofs.ReadCall.{rebuilt-is, bound-right, good-lengths}
 use Rattle.card.proofs.LayerPlanes.{few-planes, whole-at}
 
 -- ---- what a refinement that is not refused answers
@@ -135,44 +132,24 @@ module _ (h : Header) (r : right h ≡ true) (plan : Plan) (k : ℕ) (hk : k < l
       ∙ (λ t. fineAt bs (sym ef t) (sym en t) (sym ec t) (eqb (s t) (planesOf h k)))
       ∙ sym eb
 
--- ---- behind an opening
+-- ---- the tests of a layer
 module _ (qs vs : List ℤ) (bs : List ℕ) (h : Header) (long : ℕ) (plan : Plan) (k : ℕ) where
-  pub refine-lengths : (length qs ≡ points (h .shape) → length vs ≡ points (h .shape) → ⊥) → R.no qs vs (refusal 3 0 0) ≡ refineOpened qs vs bs h long plan k
-  unfolding refineOpened
-  refine-lengths n = rw (lengths-wrong qs vs h n)
+  abbrev limit : ℕ
+  limit = loads (wholePlan h (length bs - long)) k
 
-  module _ (good : goodLengths qs vs h ≡ true) where
-    abbrev limit : ℕ → ℕ
-    limit = loads (wholePlan h (length bs - long))
+  pub refine-past : layers (h .shape) ≤ k → R.no qs vs (refusal 9 k 0) ≡ refineLayer qs vs bs h long plan k
+  refine-past l = rw (le-ltb k (layers (h .shape)) l)
 
-    abbrev place : ℕ
-    place = firstOver limit (loads plan)
+  module _ (hk : k < layers (h .shape)) where
+    pub refine-none : limit ≤ loads plan k → R.no qs vs (refusal 9 k 0) ≡ refineLayer qs vs bs h long plan k
+    refine-none l = rw (lt-ltb k (layers (h .shape)) hk, le-ltb (loads plan k) limit l)
 
-    pub refine-over : place < layersMost → R.no qs vs (refusal 9 place 0) ≡ refineOpened qs vs bs h long plan k
-    unfolding refineOpened
-    refine-over l = rw (good, lt-ltb place layersMost l)
+    module _ (more : loads plan k < limit) where
+      pub refine-held : allHeld qs ≡ false → R.no qs vs (refusal 11 0 0) ≡ refineLayer qs vs bs h long plan k
+      refine-held n = rw (lt-ltb k (layers (h .shape)) hk, lt-ltb (loads plan k) limit more, n)
 
-    module _ (e : place ≡ layersMost) where
-      fits : ltb place layersMost ≡ false
-      fits = le-ltb place layersMost (omega arith)
-
-      pub refine-past : layers (h .shape) ≤ k → R.no qs vs (refusal 9 k 0) ≡ refineOpened qs vs bs h long plan k
-      unfolding refineOpened
-      refine-past l = rw (good, fits, le-ltb k (layers (h .shape)) l)
-
-      module _ (hk : k < layers (h .shape)) where
-        pub refine-none : limit k ≤ loads plan k → R.no qs vs (refusal 9 k 0) ≡ refineOpened qs vs bs h long plan k
-        unfolding refineOpened
-        refine-none l = rw (good, fits, lt-ltb k (layers (h .shape)) hk, le-ltb (loads plan k) (limit k) l)
-
-        module _ (more : loads plan k < limit k) where
-          pub refine-held : allHeld qs ≡ false → R.no qs vs (refusal 11 0 0) ≡ refineOpened qs vs bs h long plan k
-          unfolding refineOpened
-          refine-held n = rw (good, fits, lt-ltb k (layers (h .shape)) hk, lt-ltb (loads plan k) (limit k) more, n)
-
-          pub refine-next : allHeld qs ≡ true → refinePlane qs vs h long bs plan k (planesOf h k - suc (loads plan k)) ≡ refineOpened qs vs bs h long plan k
-          unfolding refineOpened
-          refine-next y = rw (good, fits, lt-ltb k (layers (h .shape)) hk, lt-ltb (loads plan k) (limit k) more, y)
+      pub refine-next : allHeld qs ≡ true → refinePlane qs vs h long bs plan k (planesOf h k - suc (loads plan k)) ≡ refineLayer qs vs bs h long plan k
+      refine-next y = rw (lt-ltb k (layers (h .shape)) hk, lt-ltb (loads plan k) limit more, y)
 
 -- a layer with a further whole plane: it is one of the header's, and in the bytes
 module _ (h : Header) (r : right h ≡ true) (long : ℕ) (bs : List ℕ) (plan : Plan) (k : ℕ) (here : long ≤ length bs)
@@ -189,13 +166,3 @@ module _ (h : Header) (r : right h ≡ true) (long : ℕ) (bs : List ℕ) (plan 
       let p = planesOf h k - suc (loads plan k) in
       let w = counted-whole h n k hk p (omega (arith, next-named)) (omega (arith, further, next-named)) in
       omega (arith, whole-fits h n k p w)
-
--- ---- what opening answers
-module _ (bs : List ℕ) (o : Opened) (e : O.told o ≡ opening bs) (qs vs : List ℤ) (plan : Plan) (k : ℕ) where
-  pub refine-refused : (detailsOf (o .refusal) .number ≡ 0 → ⊥) → R.no qs vs (detailsOf (o .refusal)) ≡ refining qs vs bs plan k
-  unfolding refining
-  refine-refused n = rw (← e, ne-eqb (detailsOf (o .refusal) .number) 0 n)
-
-  pub refine-on : o .refusal ≡ F.Accepted → refineOpened qs vs bs (o .header) (o .length) plan k ≡ refining qs vs bs plan k
-  unfolding refining
-  refine-on y = rw (← e, y)

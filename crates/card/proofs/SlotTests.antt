@@ -10,7 +10,7 @@ use lib.ListN.{length}
 use Rattle.integers.proofs.Bools.{by}
 use Rattle.header.specs.Header.{cellPoints}
 use Rattle.card.specs.Planes.{allBelow}
-use Rattle.card.specs.Words.{bitAt, fineAt, asked, slotFine, slotWords, withPlane}
+use Rattle.card.specs.Words.{bitAt, fineAt, asked, slotFine, slotWords, wordsWith}
 use Rattle.card.proofs.PlaneSums.{with-length}
 
 -- ---- one plane
@@ -60,21 +60,21 @@ module _ (bs : List ℕ) (from n c count want p : ℕ) (ws : List ℕ) (start : 
   unfolding slotWords slotFine
   slot-bad a f = (rw (a, f), rw (a, f))
 
-  pub slot-good : asked count want p ≡ true → fineAt bs from n c (eqb (suc p) count) ≡ true → Both true (withPlane ws start (cellPoints * c) p (bitAt bs from))
+  pub slot-good : asked count want p ≡ true → fineAt bs from n c (eqb (suc p) count) ≡ true → Both true (wordsWith ws start (cellPoints * c) p (bitAt bs from))
   unfolding slotWords slotFine
   slot-good a f = (rw (a, f), rw (a, f))
 
-  pub slot-adds : asked count want p ≡ true → slotFine bs from n c count want p ≡ true → slotWords bs from n c count want p ws start ≡ withPlane ws start (cellPoints * c) p (bitAt bs from)
+  pub slot-adds : asked count want p ≡ true → slotFine bs from n c count want p ≡ true → slotWords bs from n c count want p ws start ≡ wordsWith ws start (cellPoints * c) p (bitAt bs from)
   unfolding slotWords
   slot-adds a f = rw (a, f)
 
 -- ---- equal numbers give equal answers
-module _ (bs : List ℕ) (count want p : ℕ) {from from′ n n′ c c′ : ℕ} (e : from ≡ from′) (f : n ≡ n′) (g : c ≡ c′) where
-  pub fine-same : slotFine bs from n c count want p ≡ slotFine bs from′ n′ c′ count want p
-  fine-same = rw (e, f, g)
+module _ (bs : List ℕ) {from from′ n n′ c c′ count count′ want want′ p p′ : ℕ} (a : from ≡ from′) (b : n ≡ n′) (d : c ≡ c′) (e : count ≡ count′) (f : want ≡ want′) (g : p ≡ p′) where
+  pub fine-same : slotFine bs from n c count want p ≡ slotFine bs from′ n′ c′ count′ want′ p′
+  fine-same = rw (a, b, d, e, f, g)
 
-  pub words-same : (ws : List ℕ) {start start′ : ℕ} → start ≡ start′ → slotWords bs from n c count want p ws start ≡ slotWords bs from′ n′ c′ count want p ws start′
-  words-same ws h = rw (e, f, g, h)
+  pub words-same : (ws : List ℕ) {start start′ : ℕ} → start ≡ start′ → slotWords bs from n c count want p ws start ≡ slotWords bs from′ n′ c′ count′ want′ p′ ws start′
+  words-same ws h = rw (a, b, d, e, f, g, h)
 
 -- a slot leaves as many words as there were
 pub slot-length : (bs : List ℕ) (from n c count want p : ℕ) (ws : List ℕ) (start : ℕ) → length (slotWords bs from n c count want p ws start) ≡ length ws

@@ -21,7 +21,7 @@ use Rattle.header.specs.CardOrder.{cellsBefore}
 use Rattle.header.proofs.Totals.{total-same, total-none, total-bump}
 use Rattle.header.proofs.Total.{plane-room}
 use Rattle.card.specs.Reading.{bitOf, clean, hasOne, fine, loaded, badSlot, firstBad}
-use Rattle.card.specs.Words.{blockStart, wordsMost, bitAt, asked, fineAt, slotFine, slotWords, withPlane, wordRead, Read, loadedAs}
+use Rattle.card.specs.Words.{blockStart, wordsMost, bitAt, asked, fineAt, slotFine, slotWords, wordsWith, wordRead, Read, loadedAs}
 use Rattle.card.specs.declared.Loaded.the-variants.{Fine, Bad}
 use Rattle.card.proofs.ZeroBits.{bit-most}
 use Rattle.layers.proofs.Lists.{getD-zeros}
@@ -218,7 +218,7 @@ module _ (h : Header) (long : ℕ) (bs : List ℕ) (plan : ℕ → ℕ) where
             ]
 
     -- one that is
-    partly-more : loaded h long bs plan k p ≡ true → Partly h long bs plan (t + 1) (withPlane ws (blockStart (h .shape) k) (cellPoints * planeCells (h .shape) k) p (bitAt bs from))
+    partly-more : loaded h long bs plan k p ≡ true → Partly h long bs plan (t + 1) (wordsWith ws (blockStart (h .shape) k) (cellPoints * planeCells (h .shape) k) p (bitAt bs from))
     partly-more is =
         record {
           long-is = with-length ws start n p bit ∙ w .long-is;
@@ -245,14 +245,14 @@ module _ (h : Header) (long : ℕ) (bs : List ℕ) (plan : ℕ → ℕ) where
         here : k < K
         here = slot-in K some t l .1
 
-        kept : (j i : ℕ) → j < K → i < cellPoints * planeCells (h .shape) j → (j ≡ k → ⊥) → getD (withPlane ws start n p bit) (blockStart (h .shape) j + i) 0 ≡ total (share h long bs plan t j i) placesMost
+        kept : (j i : ℕ) → j < K → i < cellPoints * planeCells (h .shape) j → (j ≡ k → ⊥) → getD (wordsWith ws start n p bit) (blockStart (h .shape) j + i) 0 ≡ total (share h long bs plan t j i) placesMost
         kept j i a b ne =
             elim (decLt j k) [
               | yes m ↦ with-before ws start n p bit (blockStart (h .shape) j + i) (omega (arith, blocks-apart (h .shape) j k m)) ∙ w .word j i a b
               | no m ↦ with-after ws start n p bit (blockStart (h .shape) j + i) (omega (arith, blocks-apart (h .shape) k j (omega arith))) ∙ w .word j i a b
             ]
 
-        own : (i : ℕ) → i < n → getD (withPlane ws start n p bit) (start + i) 0 ≡ total (share h long bs plan (t + 1) k i) placesMost
+        own : (i : ℕ) → i < n → getD (wordsWith ws start n p bit) (start + i) 0 ≡ total (share h long bs plan (t + 1) k i) placesMost
         own i b =
             let d : start + i - start ≡ i = omega arith in
             let s : slotNo K k p ≡ t = slot-here K some t l in

@@ -8,7 +8,7 @@ use native.Mathlib.Omega.{arith}
 use lib.Dec.{ltb, leb, eqb}
 use lib.IntN.{ℤ, pos}
 use lib.ListN.{length, drop, List·getD-eq-default}
-use borrow.Author.Tests.{lt-ltb, le-ltb, le-leb, lt-leb, eq-eqb, ne-eqb}
+use borrow.Author.Tests.{not-false, lt-ltb, le-ltb, le-leb, lt-leb, eq-eqb, ne-eqb}
 use Rattle.integers.proofs.Bools.{and-both, and-no-left, and-no-right, or-left, or-right}
 use Rattle.digits.specs.Digits.{holds}
 use Rattle.digits.proofs.Range.{holds-by, range-23}
@@ -20,11 +20,10 @@ use Rattle.layers.specs.declared.Quantized.{Quantized}
 use Rattle.layers.specs.declared.Quantized.the-variants.{Done, Refused, OutOfRange}
 use Rattle.layers.specs.Limits.{levelsMost, stepMost}
 use Rattle.layers.specs.Lists.{at}
-use Rattle.layers.specs.Sheet.{accepted, points}
+use Rattle.layers.specs.Sheet.{sized, accepted, points}
 use Rattle.layers.specs.Layering.{layering, coefs}
 use Rattle.layers.specs.Loops.{Samples}
 use Rattle.layers.specs.Calls as C
-use Rattle.layers.proofs.Accepting.{accepted-by}
 use Rattle.layers.proofs.Answers.{samples-by, right, after-scan}
 use Rattle.layers.proofs.Law.{length-coefs}
 use Rattle.layers.proofs.Range.{coefs-reach}
@@ -37,7 +36,7 @@ use Rattle.card.specs.declared.Written.{Written}
 use Rattle.card.specs.Planes.{cardOf}
 use Rattle.card.specs.Writing.{outputLeast, badSizes, Writing, afterScan, badSettings, goodLengths, writing, told}
 use Rattle.card.specs.Writing as Wr
-use Rattle.card.proofs.BadSizes.{good-sizes}
+use Rattle.card.proofs.BadSizes.{bad-sizes}
 use Rattle.card.proofs.FlatPlanes.{zero-holds}
 
 abbrev made : Details → ℕ → List ℤ → List ℤ → List ℕ → Writing
@@ -74,8 +73,8 @@ module _ (xs : List ℤ) (sh : Shape) (curve : Curve) (e : ℕ) (qs vs : List �
     pub many-levels : levelsMost < sh .levels → badSettings xs sh curve e qs vs out ≡ true
     many-levels h = or-left (ltb levelsMost (sh .levels)) (ltb stepMost e) (lt-ltb levelsMost (sh .levels) h)
 
-    pub wide-step : ltb stepMost e ≡ true → badSettings xs sh curve e qs vs out ≡ true
-    wide-step h = or-right (ltb levelsMost (sh .levels)) (ltb stepMost e) h
+    pub wide-step : stepMost < e → badSettings xs sh curve e qs vs out ≡ true
+    wide-step h = or-right (ltb levelsMost (sh .levels)) (ltb stepMost e) (lt-ltb stepMost e h)
 
     module _ (l : sh .levels ≤ levelsMost) (s : e ≤ stepMost) where
       pub good-settings : badSettings xs sh curve e qs vs out ≡ false
@@ -107,7 +106,11 @@ module _ (xs : List ℤ) (sh : Shape) (curve : Curve) (e : ℕ) (qs vs : List �
       short-output h = and-no-right front back (and-no-right (eqb (length vs) pts) (leb outputLeast (length out)) (lt-leb _ _ h))
 
       pub shape-accepted : accepted sh ≡ true
-      shape-accepted = let g = good-sizes (sh .rows) (sh .cols) n in accepted-by sh (record { tall = g .0; wide = g .1; small = g .2; shallow = l })
+      unfolding accepted
+      shape-accepted =
+          let r = sh .rows in
+          let c = sh .cols in
+          and-both (sized r c) (leb (sh .levels) levelsMost) (not-false _ (sym (bad-sizes r c) ∙ n)) (le-leb (sh .levels) levelsMost l)
 
       is-settled : C.settled sh e ≡ true
       is-settled = unfold C.settled in (and-both (accepted sh) (leb e stepMost) shape-accepted (le-leb e stepMost s))

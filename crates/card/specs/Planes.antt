@@ -34,7 +34,7 @@ packed (suc n) f = f 0 + 2 * packed n (λ i. f (suc i))
 unfoldable pub planeBit : Shape → List ℤ → ℕ → ℕ → ℕ → ℕ
 planeBit sh qs k p i = cond (ltb i (layerSize sh k)) (digitAt (at qs (pointOf sh k i)) p) 0
 
--- "Point i of a layer is, in each plane, the bit of weight 2^(i mod 8) in byte i/8 rounded down. A plane fills whole cells of 32 bytes."
+-- "Point i of a layer is, in each plane, the bit of weight 2^(i mod 8) in byte i/8 rounded down. A plane fills whole cells of 32 bytes".
 unfoldable pub planeBytes : Shape → List ℤ → ℕ → ℕ → List ℕ
 planeBytes sh qs k p = tabulate (cellBytes * planeCells sh k) (λ b. packed 8 (λ j. planeBit sh qs k p (8 * b + j)))
 

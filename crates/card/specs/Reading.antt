@@ -4,7 +4,7 @@ use mathlib.Core.List.{List}
 use Prim.Native.Nat.{ℕ, suc, _+_, _*_, _-_, _/_, _%_, _^_}
 use lib.Dec.{ltb, leb, eqb}
 use lib.IntN.{ℤ}
-use lib.ListN.{length, getD, replicate}
+use lib.ListN.{length, getD}
 use Rattle.digits.specs.Digits.{value, firstFrom}
 use Rattle.layers.specs.Limits.{layersMost}
 use Rattle.layers.specs.Lists.{tabulate}
@@ -16,7 +16,7 @@ use Rattle.header.specs.declared.Details.{Details}
 use Rattle.header.specs.declared.Refusal.{Refusal}
 use Rattle.header.specs.Refusals.{refusal, detailsOf}
 use Rattle.header.specs.Header.{placesMost, cellBytes, cellPoints, planesOf, planeCells}
-use Rattle.header.specs.Plan.{loads, firstOver}
+use Rattle.header.specs.Plan.{noPlan, loads, firstOver}
 use Rattle.header.specs.Opening.{Opening, opening}
 use Rattle.header.specs.CardOrder.{cellsBefore, wholePlan}
 use Rattle.header.specs.Figure.{figureOf}
@@ -79,16 +79,21 @@ pub record Reading : Type 0 where
   pub coefficients : List ℤ
   pub values : List ℤ
 
-abbrev pub noPlan : Plan
-noPlan = record { planes = replicate layersMost 0 }
-
 -- the planes that are whole in the bytes
 abbrev pub wholeOf : List ℕ → Header → ℕ → Plan
 wholeOf bs h long = wholePlan h (length bs - long)
 
+-- "9, a layer asks more planes than are whole, or a place past the last layer is not 0 (detail: first such place)"
+abbrev pub planRefusal : ℕ → Details
+planRefusal over = cond (ltb over layersMost) (refusal 9 over 0) (refusal 0 0 0)
+
 module _ (qs vs : List ℤ) where
   abbrev pub no : Details → Reading
   no d = record { refused = d; plan = noPlan; figure = 0; coefficients = qs; values = vs }
+
+  -- what is done unless it is refused
+  abbrev pub unless : Details → Reading → Reading
+  unless d go = cond (eqb (d .number) 0) go (no d)
 
   -- the plan is known to load whole planes alone
   abbrev pub readWhole : Header → ℕ → List ℕ → Plan → ℕ → Reading
@@ -106,21 +111,18 @@ module _ (qs vs : List ℤ) where
   abbrev pub goodLengths : Header → Bool
   goodLengths h = eqb (length qs) (points (h .shape)) && eqb (length vs) (points (h .shape))
 
-  -- 9: "a layer asks more planes than are whole, or a place past the last layer is not 0 (detail: first such place)"
-  abbrev pub readPlan : List ℕ → Header → ℕ → Plan → ℕ → Reading
-  readPlan bs h long plan over =
-      cond (ltb over layersMost) (no (refusal 9 over 0)) (readWhole h long bs plan (firstBad h long bs (loads plan)))
+  -- the first refusal before a card is read or a reading refined: "3, lengths.", then 9; 0 where neither applies
+  unfoldable pub firstRefusal : Header → Plan → Plan → Details
+  firstRefusal h whole plan = cond (goodLengths h) (planRefusal (firstOver (loads whole) (loads plan))) (refusal 3 0 0)
 
-  -- a card that has been opened: 3, then 9, then 8
+  -- a card that has been opened: 3 and 9, then 8
   unfoldable pub readOpened : List ℕ → Header → ℕ → Plan → Reading
   readOpened bs h long plan =
-      cond (goodLengths h)
-      (readPlan bs h long plan (firstOver (loads (wholeOf bs h long)) (loads plan)))
-      (no (refusal 3 0 0))
+      unless (firstRefusal h (wholeOf bs h long) plan) (readWhole h long bs plan (firstBad h long bs (loads plan)))
 
   -- what follows opening
   abbrev pub afterOpening : Opening → (Header → ℕ → Reading) → Reading
-  afterOpening o go = cond (eqb (o .refused .number) 0) (go (o .header) (o .long)) (no (o .refused))
+  afterOpening o go = unless (o .refused) (go (o .header) (o .long))
 
   unfoldable pub reading : List ℕ → Plan → Reading
   reading bs plan = afterOpening (opening bs) (λ h long. readOpened bs h long plan)

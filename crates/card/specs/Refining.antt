@@ -7,7 +7,6 @@ use lib.IntN.{ℤ, pos, _+ℤ_, _*ℤ_}
 use lib.ListN.{length}
 use Rattle.digits.specs.Digits.{holds, weight}
 use Rattle.layers.specs.declared.Shape.{Shape}
-use Rattle.layers.specs.Limits.{layersMost}
 use Rattle.layers.specs.Lists.{at, tabulate}
 use Rattle.layers.specs.Sheet.{layers, inLayer, placeIn}
 use Rattle.layers.specs.Layering.{layering, rebuilt}
@@ -15,7 +14,7 @@ use Rattle.header.specs.declared.Header.{Header}
 use Rattle.header.specs.declared.Plan.{Plan}
 use Rattle.header.specs.Refusals.{refusal}
 use Rattle.header.specs.Header.{placesMost, planesOf}
-use Rattle.header.specs.Plan.{loads, firstOver, withPlane}
+use Rattle.header.specs.Plan.{loads, withPlane}
 use Rattle.header.specs.Opening.{opening}
 use Rattle.header.specs.Figure.{figureOf}
 use Rattle.card.specs.Planes.{allBelow}
@@ -58,15 +57,9 @@ module _ (qs vs : List ℤ) where
       (R.no qs vs (refusal 11 0 0)))
       (R.no qs vs (refusal 9 k 0))
 
-  -- "9 (the plan as above ..)"
-  abbrev pub refinePlan : List ℕ → Header → ℕ → Plan → ℕ → ℕ → Reading
-  refinePlan bs h long plan k over = cond (ltb over layersMost) (R.no qs vs (refusal 9 over 0)) (refineLayer bs h long plan k)
-
+  -- "3; 9 (the plan as above, ..)": checked as a reading is
   unfoldable pub refineOpened : List ℕ → Header → ℕ → Plan → ℕ → Reading
-  refineOpened bs h long plan k =
-      cond (R.goodLengths qs vs h)
-      (refinePlan bs h long plan k (firstOver (loads (R.wholeOf bs h long)) (loads plan)))
-      (R.no qs vs (refusal 3 0 0))
+  refineOpened bs h long plan k = R.unless qs vs (R.firstRefusal qs vs h (R.wholeOf bs h long) plan) (refineLayer bs h long plan k)
 
   unfoldable pub refining : List ℕ → Plan → ℕ → Reading
   refining bs plan k = R.afterOpening qs vs (opening bs) (λ h long. refineOpened bs h long plan k)

@@ -13,7 +13,7 @@ use Rattle.layers.specs.declared.Shape.{Shape}
 use Rattle.layers.specs.Lists.{at, tabulate, total}
 use Rattle.layers.specs.Sheet.{points, layers, layerSize, pointOf, placeIn, inLayer}
 use Rattle.header.specs.declared.Header.{Header}
-use Rattle.header.specs.Header.{placesMost, cellBytes, cellPoints, planeCells}
+use Rattle.header.specs.Header.{placesMost, cellBytes, cellPoints, placeCellsMost, planeCells}
 use Rattle.card.specs.Planes.{packed, allBelow, ownLayer}
 use Rattle.card.specs.Reading.{bitOf, loaded, slots, slotLayer, firstBad}
 use Rattle.card.specs.declared.Loaded.{Loaded}
@@ -26,12 +26,12 @@ offset = 2796202
 unfoldable pub wordOf : ℤ → ℕ
 wordOf q = natAbs (q +ℤ pos offset)
 
--- where layer k's words begin, and room for all: the planes of all layers have at most 44 cells
+-- where layer k's words begin, and room for all: one plane of every layer, a word for each point of its cells
 unfoldable pub blockStart : Shape → ℕ → ℕ
 blockStart sh k = total (λ j. cellPoints * planeCells sh j) k
 
 abbrev pub wordsMost : ℕ
-wordsMost = 11264
+wordsMost = cellPoints * placeCellsMost
 
 -- the words of the coefficients qs stand in ws, and past the last block the word of 0
 pub record Gathered (sh : Shape) (qs : List ℤ) (ws : List ℕ) : Type 0 where
@@ -72,6 +72,13 @@ countOf ws start n = firstFrom (λ d. allBelow (λ i. holds d (numberOf (getD ws
 unfoldable pub countAt : Shape → List ℕ → ℕ → ℕ
 countAt sh ws k = cond (ltb k (layers sh)) (countOf ws (blockStart sh k) (layerSize sh k)) 0
 
+-- ---- numbers put on a line or at a layer's points: of the list l, those at place 0, .., place (n - 1) became f 0, .., f (n - 1), and all others
+-- stayed
+pub record Scattered (place : ℕ → ℕ) (n : ℕ) (f : ℕ → ℤ) (l l′ : List ℤ) : Type 0 where
+  pub same : length l′ ≡ length l
+  pub done : (j : ℕ) → j < n → at l′ (place j) ≡ f j
+  pub kept : (p : ℕ) → ((j : ℕ) → j < n → place j ≡ p → ⊥) → at l′ p ≡ at l p
+
 -- ---- words that are read: digit p is bit p itself
 -- the numbers of one layer's words, at its points' places
 unfoldable pub spreadOver : Shape → ℕ → List ℕ → ℕ → List ℤ → List ℤ
@@ -90,8 +97,8 @@ unfoldable pub bitAt : List ℕ → ℕ → ℕ → ℕ
 bitAt bs from i = getD bs (from + i / 8) 0 / 2 ^ (i % 8) % 2
 
 -- the words with a plane's bits added at place p, from `start` on
-unfoldable pub withPlane : List ℕ → ℕ → ℕ → ℕ → (ℕ → ℕ) → List ℕ
-withPlane ws start n p bit =
+unfoldable pub wordsWith : List ℕ → ℕ → ℕ → ℕ → (ℕ → ℕ) → List ℕ
+wordsWith ws start n p bit =
     tabulate (length ws) (λ j. getD ws j 0 + cond (leb start j && ltb j (start + n)) (bit (j - start) * 2 ^ p) 0)
 
 -- a plane's bits at `from`, n points of c cells: no spare bit, and a 1 where it is the top plane
@@ -109,7 +116,7 @@ slotFine bs from n c count want p = not (asked count want p) || fineAt bs from n
 
 unfoldable pub slotWords : List ℕ → ℕ → ℕ → ℕ → ℕ → ℕ → ℕ → List ℕ → ℕ → List ℕ
 slotWords bs from n c count want p ws start =
-    cond (asked count want p && slotFine bs from n c count want p) (withPlane ws start (cellPoints * c) p (bitAt bs from)) ws
+    cond (asked count want p && slotFine bs from n c count want p) (wordsWith ws start (cellPoints * c) p (bitAt bs from)) ws
 
 -- every plane of the plan is in the bytes
 abbrev pub AllThere : Header → ℕ → List ℕ → (ℕ → ℕ) → Type 0

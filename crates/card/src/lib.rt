@@ -7,6 +7,7 @@ mod words;
 mod writing;
 
 use header::CELL_POINTS;
+use header::MOST_PLACE_CELLS;
 use header::Plan;
 use header::Refusal;
 pub use reading::read;
@@ -14,8 +15,8 @@ pub use reading::show;
 pub use refining::refine;
 pub use writing::write;
 
-// Room for the words of all layers, each in whole cells: one plane of every layer is at most 44 cells.
-pub(crate) const MOST_WORDS: usize = 44 * CELL_POINTS;
+// Room for the words of all layers, each in whole cells: one plane of every layer, a word for each point of its cells.
+pub(crate) const MOST_WORDS: usize = CELL_POINTS * MOST_PLACE_CELLS;
 
 // What writing answers: the card's length; 0 beside a refusal.
 pub struct Written {

@@ -68,7 +68,7 @@ pub(crate) fn is_fine(bytes: &[u8], from: usize, n: usize, cells: usize, top: bo
 // The eight bits of a byte, added at place p to eight words.
 fn add_byte(byte: u8, p: u64, words: &mut [u32], first: usize)
     requires { ⌜ (p < Hd.placesMost) × (first + 8 ≤ length (now words)) × ((i : ℕ) → getD (now words) i 0 < 2 ^ 31) ⌝ }
-    ensures { λ _. ⌜ now (words .exit) ≡ W.withPlane (now (words .entry)) first 8 p (λ i. byte / 2 ^ i % 2) ⌝ }
+    ensures { λ _. ⌜ now (words .exit) ≡ W.wordsWith (now (words .entry)) first 8 p (λ i. byte / 2 ^ i % 2) ⌝ }
 {
     for j in 0..8usize {
         let bit = ((byte >> j) % 2) as u32;
@@ -80,7 +80,7 @@ fn add_byte(byte: u8, p: u64, words: &mut [u32], first: usize)
 fn add_plane(bytes: &[u8], from: usize, cells: usize, p: u64, words: &mut [u32], start: usize)
     requires { ⌜ (p < Hd.placesMost) × (cells ≤ W.wordsMost) × (start + Hd.cellPoints * cells ≤ length (now words)) × (from + Hd.cellBytes * cells ≤ length (now bytes)) ⌝ }
     requires { ⌜ ((i : ℕ) → getD (now words) i 0 < 2 ^ 30) ⌝ }
-    ensures { λ _. ⌜ now (words .exit) ≡ W.withPlane (now (words .entry)) start (Hd.cellPoints * cells) p (W.bitAt (now (bytes .entry)) from) ⌝ }
+    ensures { λ _. ⌜ now (words .exit) ≡ W.wordsWith (now (words .entry)) start (Hd.cellPoints * cells) p (W.bitAt (now (bytes .entry)) from) ⌝ }
 {
     let n = CELL_BYTES * cells;
     for b in 0..n {
@@ -153,7 +153,7 @@ pub(crate) fn load_body(
     let shape = header.shape;
     let counts = header.planes;
     let wanted = plan.planes;
-    let layers = 1 + 2 * shape.levels;
+    let layers = layers::layer_count(shape);
     let slots = PLACES * layers;
     let mut from = at;
     let mut start: usize = 0;

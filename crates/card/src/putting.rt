@@ -60,7 +60,7 @@ fn put_place(
     requires { ⌜ at + length (W.flatPlace shape planes (now words) p (S.layers shape)) ≤ length (now out) ⌝ }
     ensures { λ r. ⌜ (r ≡ at + length (W.flatPlace shape planes (now (words .entry)) p (S.layers shape))) × (now (out .exit) ≡ sets (now (out .entry)) at (W.flatPlace shape planes (now (words .entry)) p (S.layers shape))) ⌝ }
 {
-    let layers = 1 + 2 * shape.levels;
+    let layers = layers::layer_count(shape);
     let mut start: usize = 0;
     let mut to = at;
     for k in 0..layers {

@@ -7,6 +7,7 @@ ghost use Rattle.layers.specs.Limits.{layersMost};
 ghost use Rattle.header.specs.Header as Hd;
 ghost use Rattle.header.specs.Plan as N;
 ghost use Rattle.header.specs.Opening as O;
+ghost use Rattle.header.specs.Refusals.{detailsOf};
 ghost use Rattle.card.specs.Reading as R;
 ghost use Rattle.card.specs.Words as W;
 use crate::Loaded;
@@ -29,6 +30,31 @@ pub(crate) fn refused(refusal: Refusal) -> Reached
         },
         figure: 0,
     }
+}
+
+// The first refusal of the slices' lengths and of the plan, given the planes that are whole; Accepted where there is none.
+pub(crate) fn first_refusal(
+    header: Header,
+    whole: Plan,
+    plan: Plan,
+    coefficients: &[i32],
+    values: &[i64],
+) -> Refusal
+    requires { ⌜ O.right header ≡ true ⌝ }
+    ensures { λ r. ⌜ detailsOf r ≡ R.firstRefusal (now (coefficients .entry)) (now (values .entry)) header whole plan ⌝ }
+{
+    let shape = header.shape;
+    let points = shape.rows * shape.cols;
+    if coefficients.len() != points || values.len() != points {
+        return Refusal::BadLengths;
+    }
+    let limit = whole.planes;
+    let wanted = plan.planes;
+    let place = header::first_over(limit, wanted);
+    if place < MOST_LAYERS {
+        return Refusal::BadPlan(place as u64);
+    }
+    Refusal::Accepted
 }
 
 // The planes of a plan, all of them whole, to coefficients and values, by way of the words.
@@ -74,28 +100,18 @@ fn read_opened(
     requires { ⌜ (O.right header ≡ true) × (at ≤ length (now bytes)) ⌝ }
     ensures { λ r. ⌜ R.told r (now (coefficients .exit)) (now (values .exit)) ≡ R.readOpened (now (coefficients .entry)) (now (values .entry)) (now (bytes .entry)) header at plan ⌝ }
 {
-    let shape = header.shape;
-    let rows = shape.rows;
-    let cols = shape.cols;
-    let points = rows * cols;
-    if coefficients.len() != points {
-        return refused(Refusal::BadLengths);
-    }
-    if values.len() != points {
-        return refused(Refusal::BadLengths);
-    }
     let whole = header::whole_planes(header, bytes.len() - at);
-    let limit = whole.planes;
-    let wanted = plan.planes;
-    let place = header::first_over(limit, wanted);
-    if place < MOST_LAYERS {
-        return refused(Refusal::BadPlan(place as u64));
+    let refusal = first_refusal(header, whole, plan, coefficients, values);
+    match refusal {
+        Refusal::Accepted => {
+            let mut words = [0u32; MOST_WORDS];
+            read_planes(&mut words, bytes, header, at, plan, coefficients, values)
+        }
+        _ => refused(refusal),
     }
-    let mut words = [0u32; MOST_WORDS];
-    read_planes(&mut words, bytes, header, at, plan, coefficients, values)
 }
 
-// Reads a card, pulled or whole, with a plan. A refusal changes nothing.
+// Reads a card, truncated or whole, with a plan. A refusal changes nothing.
 pub fn read(bytes: &[u8], plan: Plan, coefficients: &mut [i32], values: &mut [i64]) -> Reached
     ensures { λ r. ⌜ R.told r (now (coefficients .exit)) (now (values .exit)) ≡ R.reading (now (coefficients .entry)) (now (values .entry)) (now (bytes .entry)) plan ⌝ }
 {

@@ -1,10 +1,13 @@
 // Refining a reading: the next plane of one layer.
 ghost use mathlib.Core.Path.{_≡_};
 ghost use mathlib.Core.Bool.{true};
-ghost use Prim.Native.Nat.{suc, _+_, _*_, _-_, _/_, _<_, _≤_};
+ghost use Prim.Native.Nat.{ℕ, suc, _+_, _*_, _-_, _/_, _^_, _<_, _≤_};
+ghost use lib.IntN.{pos, _+ℤ_, _*ℤ_};
 ghost use lib.ListN.{length};
-ghost use Rattle.digits.specs.Digits.{weight};
+ghost use Rattle.integers.specs.Distance.{Within};
+ghost use Rattle.digits.specs.Digits.{weight, holds};
 ghost use Rattle.layers.specs.Limits.{layersMost};
+ghost use Rattle.layers.specs.Lists.{at};
 ghost use Rattle.layers.specs.Sheet as S;
 ghost use Rattle.header.specs.Header as Hd;
 ghost use Rattle.header.specs.Plan as N;
@@ -15,12 +18,12 @@ ghost use Rattle.card.specs.Refining as F;
 ghost use Rattle.card.specs.Words as W;
 use crate::Reached;
 use crate::loading::is_fine;
+use crate::reading::first_refusal;
 use crate::reading::refused;
 use header::CELL_BYTES;
 use header::Header;
 use header::Plan;
 use header::Refusal;
-use layers::MOST_LAYERS;
 use layers::Shape;
 
 // "23 digits reach from -2,796,202 to 5,592,405"
@@ -61,6 +64,28 @@ fn bit_at(bytes: &[u8], from: usize, i: usize) -> u8
     (bytes[from + i / 8] >> (i % 8)) % 2
 }
 
+// The n digits from bit i on, times their weight `scale`, added to the coefficients on a line.
+fn add_line(
+    bytes: &[u8],
+    from: usize,
+    i: usize,
+    scale: i32,
+    n: usize,
+    coefficients: &mut [i32],
+    first: usize,
+    stride: usize,
+)
+    requires { ⌜ (from + (i + n + 7) / 8 ≤ length (now bytes)) × (i + n ≤ length (now coefficients)) × Within (2 ^ Hd.placesMost) scale ⌝ }
+    requires { ⌜ (0 < stride) × ((j : ℕ) → j < n → (first + j * stride < length (now coefficients)) × (holds Hd.placesMost (at (now coefficients) (first + j * stride)) ≡ true)) ⌝ }
+    ensures { λ _. ⌜ W.Scattered (λ j. first + j * stride) n (λ j. at (now (coefficients .entry)) (first + j * stride) +ℤ pos (W.bitAt (now (bytes .entry)) from (i + j)) *ℤ scale) (now (coefficients .entry)) (now (coefficients .exit)) ⌝ }
+{
+    for j in 0..n {
+        let at = first + j * stride;
+        let d = bit_at(bytes, from, i + j) as i32;
+        coefficients[at] = coefficients[at] + d * scale;
+    }
+}
+
 // The digits of a layer's plane at place p, which stands at `from`, added to its points' coefficients.
 fn add_digits(
     bytes: &[u8],
@@ -74,20 +99,19 @@ fn add_digits(
     requires { ⌜ (length (now coefficients) ≡ S.points shape) × (F.allHeld (now coefficients) ≡ true) × (from + Hd.cellBytes * Hd.planeCells shape layer ≤ length (now bytes)) ⌝ }
     ensures { λ _. ⌜ now (coefficients .exit) ≡ F.coefsPlus shape layer p (W.bitAt (now (bytes .entry)) from) (now (coefficients .entry)) ⌝ }
 {
-    let g = layers::layer_grid(shape, layer);
-    let w = weight_of(p);
-    let mut i: usize = 0;
-    let mut row = g.row;
-    while row < shape.rows {
-        let mut col = g.col;
-        while col < shape.cols {
-            let at = row * shape.cols + col;
-            let d = bit_at(bytes, from, i) as i32;
-            coefficients[at] = coefficients[at] + d * w;
-            i += 1;
-            col += g.right;
-        }
-        row += g.down;
+    let l = layers::layer_lines(shape, layer);
+    let scale = weight_of(p);
+    for r in 0..l.lines {
+        add_line(
+            bytes,
+            from,
+            r * l.points,
+            scale,
+            l.points,
+            coefficients,
+            l.first + r * l.apart,
+            l.stride,
+        );
     }
 }
 
@@ -127,7 +151,38 @@ fn refine_plane(
     }
 }
 
-// A card that has been opened, refined by a plane of a layer that may not be there.
+// A reading with one plane more of a layer that may not be there, or may have no further plane that is whole.
+fn refine_layer(
+    bytes: &[u8],
+    header: Header,
+    at: usize,
+    whole: Plan,
+    plan: Plan,
+    layer: u64,
+    coefficients: &mut [i32],
+    values: &mut [i64],
+) -> Reached
+    requires { ⌜ (O.right header ≡ true) × (at ≤ length (now bytes)) × (whole ≡ R.wholeOf (now bytes) header at) ⌝ }
+    requires { ⌜ (R.goodLengths (now coefficients) (now values) header ≡ true) × (N.firstOver (Hd.planesOf header) (N.loads plan) ≡ layersMost) ⌝ }
+    ensures { λ r. ⌜ R.told r (now (coefficients .exit)) (now (values .exit)) ≡ F.refineLayer (now (coefficients .entry)) (now (values .entry)) (now (bytes .entry)) header at plan layer ⌝ }
+{
+    let shape = header.shape;
+    let limit = whole.planes;
+    let wanted = plan.planes;
+    if layers::layer_count(shape) as u64 <= layer {
+        return refused(Refusal::BadPlan(layer));
+    }
+    let k = layer as usize;
+    if limit[k] <= wanted[k] {
+        return refused(Refusal::BadPlan(layer));
+    }
+    if !all_held(coefficients) {
+        return refused(Refusal::BadCoefficient);
+    }
+    refine_plane(bytes, header, at, plan, k, coefficients, values)
+}
+
+// A card that has been opened, refined with a plan that may ask too much.
 fn refine_opened(
     bytes: &[u8],
     header: Header,
@@ -140,36 +195,21 @@ fn refine_opened(
     requires { ⌜ (O.right header ≡ true) × (at ≤ length (now bytes)) ⌝ }
     ensures { λ r. ⌜ R.told r (now (coefficients .exit)) (now (values .exit)) ≡ F.refineOpened (now (coefficients .entry)) (now (values .entry)) (now (bytes .entry)) header at plan layer ⌝ }
 {
-    let shape = header.shape;
-    let rows = shape.rows;
-    let cols = shape.cols;
-    let levels = shape.levels;
-    let points = rows * cols;
-    if coefficients.len() != points {
-        return refused(Refusal::BadLengths);
-    }
-    if values.len() != points {
-        return refused(Refusal::BadLengths);
-    }
     let whole = header::whole_planes(header, bytes.len() - at);
-    let limit = whole.planes;
-    let wanted = plan.planes;
-    let place = header::first_over(limit, wanted);
-    if place < MOST_LAYERS {
-        return refused(Refusal::BadPlan(place as u64));
+    let refusal = first_refusal(header, whole, plan, coefficients, values);
+    match refusal {
+        Refusal::Accepted => refine_layer(
+            bytes,
+            header,
+            at,
+            whole,
+            plan,
+            layer,
+            coefficients,
+            values,
+        ),
+        _ => refused(refusal),
     }
-    let last = (2 * levels) as u64;
-    if last < layer {
-        return refused(Refusal::BadPlan(layer));
-    }
-    let k = layer as usize;
-    if limit[k] <= wanted[k] {
-        return refused(Refusal::BadPlan(layer));
-    }
-    if !all_held(coefficients) {
-        return refused(Refusal::BadCoefficient);
-    }
-    refine_plane(bytes, header, at, plan, k, coefficients, values)
 }
 
 // Adds the next plane of one layer to a reading with a plan, and rebuilds all values. A refusal changes nothing.

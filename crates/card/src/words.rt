@@ -4,7 +4,7 @@ ghost use mathlib.Core.Bool.{true};
 ghost use Prim.Native.Nat.{ℕ, _+_, _*_, _^_, _<_, _≤_};
 ghost use lib.ListN.{length, getD, replicate};
 ghost use lib.Seq.{sets};
-ghost use Rattle.digits.specs.Digits.{holds};
+ghost use Rattle.digits.specs.Digits.{holds, value, bitsOf};
 ghost use Rattle.layers.specs.Limits.{layersMost};
 ghost use Rattle.layers.specs.Lists.{at, tabulate};
 ghost use Rattle.layers.specs.Sheet as S;
@@ -27,6 +27,24 @@ fn word_of(q: i32) -> u32
     (q + SIGNED_OFFSET) as u32
 }
 
+// The words of the n coefficients on a line, from `start` on.
+fn gather_line(
+    coefficients: &[i32],
+    first: usize,
+    stride: usize,
+    n: usize,
+    words: &mut [u32],
+    start: usize,
+)
+    requires { ⌜ ((j : ℕ) → j < n → first + j * stride < length (now coefficients)) × ((p : ℕ) → holds Hd.placesMost (at (now coefficients) p) ≡ true) ⌝ }
+    requires { ⌜ start + n ≤ length (now words) ⌝ }
+    ensures { λ _. ⌜ now (words .exit) ≡ sets (now (words .entry)) start (tabulate n (λ j. W.wordOf (at (now (coefficients .entry)) (first + j * stride)))) ⌝ }
+{
+    for j in 0..n {
+        words[start + j] = word_of(coefficients[first + j * stride]);
+    }
+}
+
 // The words of one layer in row order, from `start` on.
 fn gather_layer(coefficients: &[i32], shape: Shape, layer: usize, words: &mut [u32], start: usize)
     requires { ⌜ (S.accepted shape ≡ true) × (layer < S.layers shape) ⌝ }
@@ -34,17 +52,16 @@ fn gather_layer(coefficients: &[i32], shape: Shape, layer: usize, words: &mut [u
     requires { ⌜ start + S.layerSize shape layer ≤ length (now words) ⌝ }
     ensures { λ _. ⌜ now (words .exit) ≡ sets (now (words .entry)) start (tabulate (S.layerSize shape layer) (λ i. W.wordOf (at (now (coefficients .entry)) (S.pointOf shape layer i)))) ⌝ }
 {
-    let g = layers::layer_grid(shape, layer);
-    let mut i = start;
-    let mut row = g.row;
-    while row < shape.rows {
-        let mut col = g.col;
-        while col < shape.cols {
-            words[i] = word_of(coefficients[row * shape.cols + col]);
-            i += 1;
-            col += g.right;
-        }
-        row += g.down;
+    let l = layers::layer_lines(shape, layer);
+    for r in 0..l.lines {
+        gather_line(
+            coefficients,
+            l.first + r * l.apart,
+            l.stride,
+            l.points,
+            words,
+            start + r * l.points,
+        );
     }
 }
 
@@ -55,7 +72,7 @@ pub(crate) fn gather(coefficients: &[i32], shape: Shape, words: &mut [u32])
     requires { ⌜ now words ≡ replicate W.wordsMost W.offset ⌝ }
     ensures { λ _. ⌜ W.Gathered shape (now (coefficients .entry)) (now (words .exit)) ⌝ }
 {
-    let layers = 1 + 2 * shape.levels;
+    let layers = layers::layer_count(shape);
     let mut start: usize = 0;
     for k in 0..layers {
         gather_layer(coefficients, shape, k, words, start);
@@ -90,7 +107,7 @@ pub(crate) fn counts(words: &[u32], shape: Shape) -> [u64; MOST_LAYERS]
     requires { ⌜ (length (now words) ≡ W.wordsMost) × ((i : ℕ) → getD (now words) i 0 < 2 ^ Hd.placesMost) ⌝ }
     ensures { λ r. ⌜ r ≡ tabulate layersMost (W.countAt shape (now (words .entry))) ⌝ }
 {
-    let layers = 1 + 2 * shape.levels;
+    let layers = layers::layer_count(shape);
     let mut planes = [0u64; MOST_LAYERS];
     let mut start: usize = 0;
     for k in 0..layers {
@@ -100,6 +117,24 @@ pub(crate) fn counts(words: &[u32], shape: Shape) -> [u64; MOST_LAYERS]
     planes
 }
 
+// The numbers of n words, put on a line of the sheet.
+fn spread_line(
+    words: &[u32],
+    start: usize,
+    n: usize,
+    coefficients: &mut [i32],
+    first: usize,
+    stride: usize,
+)
+    requires { ⌜ (start + n ≤ length (now words)) × ((i : ℕ) → getD (now words) i 0 < 2 ^ Hd.placesMost) ⌝ }
+    requires { ⌜ (0 < stride) × ((j : ℕ) → j < n → first + j * stride < length (now coefficients)) ⌝ }
+    ensures { λ _. ⌜ W.Scattered (λ j. first + j * stride) n (λ j. value (bitsOf 32 (getD (now (words .entry)) (start + j) 0))) (now (coefficients .entry)) (now (coefficients .exit)) ⌝ }
+{
+    for j in 0..n {
+        coefficients[first + j * stride] = digits::even_places(words[start + j]) as i32;
+    }
+}
+
 // The numbers of one layer's words, put at its points' places in the sheet.
 fn spread_layer(words: &[u32], start: usize, shape: Shape, layer: usize, coefficients: &mut [i32])
     requires { ⌜ (S.accepted shape ≡ true) × (layer < S.layers shape) ⌝ }
@@ -107,17 +142,16 @@ fn spread_layer(words: &[u32], start: usize, shape: Shape, layer: usize, coeffic
     requires { ⌜ ((i : ℕ) → getD (now words) i 0 < 2 ^ Hd.placesMost) ⌝ }
     ensures { λ _. ⌜ now (coefficients .exit) ≡ W.spreadOver shape layer (now (words .entry)) start (now (coefficients .entry)) ⌝ }
 {
-    let g = layers::layer_grid(shape, layer);
-    let mut i = start;
-    let mut row = g.row;
-    while row < shape.rows {
-        let mut col = g.col;
-        while col < shape.cols {
-            coefficients[row * shape.cols + col] = digits::even_places(words[i]) as i32;
-            i += 1;
-            col += g.right;
-        }
-        row += g.down;
+    let l = layers::layer_lines(shape, layer);
+    for r in 0..l.lines {
+        spread_line(
+            words,
+            start + r * l.points,
+            l.points,
+            coefficients,
+            l.first + r * l.apart,
+            l.stride,
+        );
     }
 }
 
@@ -128,7 +162,7 @@ pub(crate) fn spread(words: &[u32], shape: Shape, coefficients: &mut [i32])
     requires { ⌜ ((i : ℕ) → getD (now words) i 0 < 2 ^ Hd.placesMost) ⌝ }
     ensures { λ _. ⌜ now (coefficients .exit) ≡ W.spreadAll shape (now (words .entry)) ⌝ }
 {
-    let layers = 1 + 2 * shape.levels;
+    let layers = layers::layer_count(shape);
     let mut start: usize = 0;
     for k in 0..layers {
         spread_layer(words, start, shape, k, coefficients);

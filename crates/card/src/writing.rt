@@ -3,7 +3,7 @@ ghost use mathlib.Core.Path.{_≡_};
 ghost use mathlib.Core.Bool.{true};
 ghost use mathlib.Core.List.{_++_};
 ghost use Prim.Native.Nat.{ℕ, _≤_};
-ghost use lib.ListN.{length, take, drop, replicate};
+ghost use lib.ListN.{length, drop, replicate};
 ghost use lib.Seq.{sets};
 ghost use Rattle.digits.specs.Digits.{holds};
 ghost use Rattle.layers.specs.Limits.{stepMost};
@@ -20,11 +20,9 @@ use crate::words::OFFSET;
 use crate::words::counts;
 use crate::words::gather;
 use header::Header;
-use header::HeaderText;
 use header::Refusal;
 use layers::Curve;
 use layers::MOST_LEVELS;
-use layers::MOST_POINTS;
 use layers::MOST_STEP;
 use layers::Quantized;
 use layers::Shape;
@@ -38,29 +36,15 @@ fn refused(refusal: Refusal) -> Written
     Written { refusal, length: 0 }
 }
 
-// "R or C is 0 or their product above 8,192": sizes are bounded before they are multiplied.
-fn bad_size(rows: usize, cols: usize) -> bool
-    ensures { λ r. ⌜ r ≡ Wr.badSizes rows cols ⌝ }
+// Puts a header's text at the front of the output, and answers its length.
+fn put_header(header: Header, output: &mut [u8]) -> usize
+    requires { ⌜ length (Hd.headerText header) ≤ length (now output) ⌝ }
+    ensures { λ r. ⌜ (r ≡ length (Hd.headerText header)) × (now (output .exit) ≡ sets (now (output .entry)) 0 (Hd.headerText header)) ⌝ }
 {
-    if rows == 0 || cols == 0 {
-        return true;
-    }
-    if MOST_POINTS < rows || MOST_POINTS < cols {
-        return true;
-    }
-    MOST_POINTS < rows * cols
-}
-
-// Puts the header's text at the front of the output.
-fn put_text(text: HeaderText, output: &mut [u8])
-    requires { ⌜ (text .length ≤ Hd.textMost) × (text .length ≤ length (text .bytes)) × (text .length ≤ length (now output)) ⌝ }
-    ensures { λ _. ⌜ now (output .exit) ≡ sets (now (output .entry)) 0 (take (text .length) (text .bytes)) ⌝ }
-{
+    let text = header::header_text(header);
     let bytes = text.bytes;
-    let n = text.length;
-    for i in 0..n {
-        output[i] = bytes[i];
-    }
+    let length = text.length;
+    text::put(output, 0, &bytes[..length])
 }
 
 // The card of the coefficients, at the front of the output; answers its length.
@@ -80,15 +64,15 @@ fn write_card(
     gather(coefficients, shape, words);
     let planes = counts(words, shape);
     let cells = header::total_cells(shape, planes);
-    let text = header::header_text(Header {
+    let header = Header {
         shape,
         curve,
         step,
         planes,
         cells,
-    });
-    put_text(text, output);
-    put_body(words, shape, planes, output, text.length)
+    };
+    let length = put_header(header, output);
+    put_body(words, shape, planes, output, length)
 }
 
 // Writes a sheet: coefficients, rebuilt values, and the card at the front of the output. A refusal changes nothing.
@@ -105,7 +89,7 @@ pub fn write(
 ) -> Written
     ensures { λ r. ⌜ Wr.told r (now (coefficients .exit)) (now (values .exit)) (now (output .exit)) ≡ Wr.writing (now (samples .entry)) (Wr.shapeOf rows cols levels) curve step (now (coefficients .entry)) (now (values .entry)) (now (output .entry)) ⌝ }
 {
-    if bad_size(rows, cols) {
+    if !layers::sized(rows, cols) {
         return refused(Refusal::BadSize);
     }
     if MOST_LEVELS < levels || MOST_STEP < step {

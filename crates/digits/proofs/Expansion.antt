@@ -1,20 +1,21 @@
 -- The digits of a number: lowest q - 2 × higher q is q, since the division by 2 leaves no rest; so the digits give the number back, by induction on their count.
 use mathlib.Core.Path.{_≡_, refl, sym, ap, _∙_, subst}
 use mathlib.Core.List.{List, [], _∷_}
-use Prim.Native.Nat.{ℕ, zero, suc, _+_, _%_, _≤_, _<_}
+use Prim.Native.Nat.{ℕ, zero, suc, _%_, _≤_, _<_}
 use native.Mathlib.Omega.{arith}
 use native.Mathlib.Nat as NatL
-use lib.IntN.{ℤ, pos, negsuc, natAbs, _-ℤ_, _*ℤ_}
+use lib.IntN.{ℤ, pos, natAbs, _-ℤ_, _*ℤ_}
 use lib.ListN.{length, getD}
-use Rattle.integers.specs.Distance.{up, down, Near}
+use Rattle.integers.specs.Distance.{Near}
 use Rattle.integers.specs.Floor.{floorDiv}
 use Rattle.integers.proofs.Diff.{#, lit, _⊖_, _⊡_}
 use Rattle.integers.proofs.Order.{eq-by}
+use Rattle.integers.proofs.Near.{parts-abs}
 use Rattle.integers.proofs.Floor.{floor-at}
 use Rattle.digits.specs.Digits.{value, Binary, evens, odds, lowest, higher, digitAt, digitsOf, loss, truncate}
 use Rattle.digits.proofs.Range.{Holds, holds-cons, holds-uncons}
 use Rattle.digits.proofs.Value.{value-inj}
-use Rattle.digits.proofs.Loss.{drop-near}
+use Rattle.digits.proofs.Losses.{drop-near}
 
 -- ---- one digit
 pub lowest-small : (q : ℤ) → lowest q < 2
@@ -25,11 +26,7 @@ pub lowest-higher : (q : ℤ) → pos (lowest q) -ℤ pos 2 *ℤ higher q ≡ q
 unfolding lowest higher
 lowest-higher q =
     eq-by (lit (natAbs q % 2) ⊖ 2 ⊡ # (floorDiv (pos (natAbs q % 2) -ℤ q) 2)) (# q)
-    (omega (arith, size q, floor-at (lit (natAbs q % 2) ⊖ # q) 2 (omega arith)))
-  where
-    size : (q : ℤ) → natAbs q ≡ up q + down q
-    size (pos n) = omega arith
-    size (negsuc n) = omega arith
+    (omega (arith, parts-abs q, floor-at (lit (natAbs q % 2) ⊖ # q) 2 (omega arith)))
 
 pub holds-higher : (n : ℕ) (q : ℤ) → Holds (suc n) q → Holds n (higher q)
 holds-higher n q h =

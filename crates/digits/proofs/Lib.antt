@@ -1,8 +1,9 @@
 pub mod Range
 pub mod Value
 pub mod Places
-pub mod Loss
+pub mod Losses
 pub mod Expansion
+pub mod Missing
 pub mod Offset
 pub mod Words
 pub mod Firsts

@@ -1,7 +1,6 @@
 -- What n binary digits can come to: one digit more swaps the two limits, doubles them and adds 1 to the upper, by induction on n.
 use mathlib.Core.Path.{_≡_, refl}
 use mathlib.Core.Bool.{true}
-use mathlib.Core.Logic.{_↔_}
 use mathlib.Core.List.{List, [], _∷_}
 use Prim.Native.Nat.{ℕ, zero, suc, _+_, _*_, _-_, _≤_, _<_, _^_}
 use native.Mathlib.Omega.{arith}
@@ -59,9 +58,6 @@ holds-by n q h =
     and-both (leZ (negℤ (pos (odds n))) q) (leZ q (pos (evens n)))
     (is-true _ (le-by (⊟ (lit (odds n))) (# q) (omega arith) .le))
     (is-true _ (le-by (# q) (lit (evens n)) (omega arith) .le))
-
-pub holds-is : (n : ℕ) (q : ℤ) → (holds n q ≡ true) ↔ Holds n q
-holds-is n q = (holds-yes n q, holds-by n q)
 
 -- a digit x below the number v
 pub holds-cons : (n x : ℕ) (v : ℤ) → x < 2 → Holds n v → Holds (suc n) (pos x -ℤ pos 2 *ℤ v)

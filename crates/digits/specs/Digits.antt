@@ -78,3 +78,7 @@ truncate d ds = replicate d 0 ++ drop d ds
 -- "Dropping d digits loses at most loss(d) = 2^(d+1)/3 rounded down"
 unfoldable pub loss : ℕ → ℕ
 loss d = 2 ^ (d + 1) / 3
+
+-- the digits that hold every i32; of no more can any be missing
+abbrev pub digitsMost : ℕ
+digitsMost = 33

@@ -1,7 +1,9 @@
 // Numbers to the base -2. A coefficient is an i32; a word holds its digits, digit p in bit p.
 ghost use mathlib.Core.Path.{_≡_};
+ghost use Prim.Native.Nat.{min};
 ghost use lib.IntN.{negℤ};
-ghost use Rattle.digits.specs.Digits.{value, bitsOf, digitAt, fewest};
+ghost use Rattle.digits.specs.Digits as D;
+ghost use Rattle.digits.specs.Digits.{value, bitsOf, digitAt, fewest, digitsMost};
 
 // The number whose digits are the word's bits, the lowest of which adds its weight.
 pub fn even_places(word: u32) -> i64
@@ -62,4 +64,12 @@ pub fn digits_needed(q: i32) -> u64
         n += 1;
     }
     n
+}
+
+// What is lost at most where the d lowest digits are missing; no i32 has more than 33 digits, so no more are.
+pub fn loss(d: u64) -> u64
+    ensures { λ r. ⌜ r ≡ D.loss (min d digitsMost) ⌝ }
+{
+    let n = if d < MOST_DIGITS { d } else { MOST_DIGITS };
+    (2 << n) / 3
 }

@@ -9,19 +9,19 @@ use borrow.Author.Tests.{le-ltb, eqb-true}
 use lib.Dec.{ltb, eqb}
 use lib.IntN.{ℤ, pos}
 use lib.ListN.{length, length-replicate}
-use Rattle.integers.proofs.Bools.{by, and-right}
-use Rattle.layers.specs.Limits.{layersMost}
+use Rattle.integers.proofs.Bools.{by}
 use Rattle.layers.specs.Sheet.{points}
 use Rattle.layers.specs.Layering.{layering}
 use Rattle.layers.proofs.Law.{length-rebuilt}
 use Rattle.text.specs.Line.{lineText}
 use Rattle.header.specs.declared.Header.{Header}
 use Rattle.header.specs.Header.{ascii}
-use Rattle.header.specs.Plan.{loads, firstOver}
+use Rattle.header.specs.Plan.{loads}
 use Rattle.header.specs.Opening.{opening}
-use Rattle.card.specs.Reading.{showing, readOpened, goodLengths, wholeOf, firstBad, slots, coefsRead}
+use Rattle.card.specs.Reading.{showing, readOpened, firstRefusal, wholeOf, firstBad, slots, coefsRead}
+use Rattle.card.proofs.ReadCall.{good-lengths, checked-passes}
 use Rattle.display.specs.declared.Shown.{Shown}
-use Rattle.display.specs.Shown.{loadedText, rowsText, textOf, room, seen, shownOf, valuesOf, shownText, valuePiece, pieceAt, pieces, inOrder}
+use Rattle.display.specs.Shown.{loadedText, rowsText, textOf, room, seen, shownOf, valuesOf, shownText, valuePiece, sheetLines, pieceAt, pieces, inOrder}
 use Rattle.display.proofs.OpenedSize.{opened-sheet}
 use Rattle.display.proofs.Order.{order-split, order-same}
 use Rattle.display.proofs.Rows.{rows-pieces}
@@ -33,39 +33,39 @@ module _ (s : Shown) (vs : List ℤ) where
   refused-piece e = simp (e, append-nil)
 
   module _ (e : eqb (s .number) 0 ≡ true) where
-    piece-value : (k : ℕ) → pieceAt s vs (4 + k) ≡ valuePiece vs (s .shape .cols) k
+    piece-value : (k : ℕ) → pieceAt s vs (sheetLines + k) ≡ valuePiece vs (s .shape .cols) k
     unfolding pieceAt
-    piece-value k = let d : 4 + k - 4 ≡ k = omega arith in rw (e, le-ltb (4 + k) 4 (omega arith), d)
+    piece-value k = let d : sheetLines + k - sheetLines ≡ k = omega arith in rw (e, le-ltb (sheetLines + k) sheetLines (omega arith), d)
 
-    lines-pieces : inOrder (pieceAt s vs) 4 0 ≡ lineText (ascii "rows=") (s .shape .rows) ++ lineText (ascii "cols=") (s .shape .cols) ++ loadedText (s .shape .levels) (s .plan) ++ lineText (ascii "figure=") (s .figure)
+    lines-pieces : inOrder (pieceAt s vs) sheetLines 0 ≡ lineText (ascii "rows=") (s .shape .rows) ++ lineText (ascii "cols=") (s .shape .cols) ++ loadedText (s .shape) (s .plan) ++ lineText (ascii "figure=") (s .figure)
     unfolding inOrder pieceAt
     lines-pieces = simp (e, append-assoc, append-nil)
 
     module _ (some : 0 < s .shape .cols) (long : length vs ≡ points (s .shape)) where
-      values-pieces : inOrder (pieceAt s vs) (length vs) 4 ≡ rowsText (s .shape .rows) (s .shape .cols) vs
+      values-pieces : inOrder (pieceAt s vs) (length vs) sheetLines ≡ rowsText (s .shape .rows) (s .shape .cols) vs
       values-pieces =
-          order-same (pieceAt s vs) (valuePiece vs (s .shape .cols)) (length vs) 4 0 (λ k _. rw zero-add (piece-value k))
+          order-same (pieceAt s vs) (valuePiece vs (s .shape .cols)) (length vs) sheetLines 0 (λ k _. rw zero-add (piece-value k))
           ∙ rw long (rows-pieces (s .shape .cols) some (s .shape .rows) vs long)
 
       sheet-pieces : inOrder (pieceAt s vs) (pieces (s .number) vs) 0 ≡ textOf s vs
       unfolding textOf
-      sheet-pieces = rw e (order-split (pieceAt s vs) 4 (length vs) 0 ∙ ap₂ (λ (a b : List ℕ). a ++ b) lines-pieces values-pieces)
+      sheet-pieces = rw e (order-split (pieceAt s vs) sheetLines (length vs) 0 ∙ ap₂ (λ (a b : List ℕ). a ++ b) lines-pieces values-pieces)
 
 -- ---- what showing leaves in the slice of values is as long as the slice
 module _ (qs vs : List ℤ) (bs : List ℕ) where
   opened-long : (h : Header) (long : ℕ) → length (readOpened qs vs bs h long (wholeOf bs h long) .values) ≡ length vs
   unfolding readOpened
   opened-long h long =
-      let plan = loads (wholeOf bs h long) in
-      by (goodLengths qs vs h)
-      (λ g.
-      by (ltb (firstOver plan plan) layersMost)
-      (λ o. rw (g, o))
-      (λ o.
+      let whole = wholeOf bs h long in
+      let plan = loads whole in
+      by (eqb (firstRefusal qs vs h whole whole .number) 0)
+      (λ y.
       by (ltb (firstBad h long bs plan) (slots h long bs plan))
-      (λ b. rw (g, o, b))
-      (λ b. rw (g, o, b) (length-rebuilt (layering (h .shape) (h .curve)) (h .step) (coefsRead h long bs plan) ∙ sym (eqb-true (length vs) (points (h .shape)) (and-right (eqb (length qs) (points (h .shape))) (eqb (length vs) (points (h .shape))) g))))))
-      (λ g. rw g)
+      (λ b. rw (y, b))
+      (λ b.
+      let full = good-lengths qs vs h (checked-passes qs vs h whole whole (eqb-true _ _ y) .0) in
+      rw (y, b) (length-rebuilt (layering (h .shape) (h .curve)) (h .step) (coefsRead h long bs plan) ∙ sym (full .1))))
+      (λ n. rw n)
 
   showing-long : length (showing qs vs bs .values) ≡ length vs
   unfolding showing

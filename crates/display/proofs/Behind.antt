@@ -1,43 +1,31 @@
--- Text put behind text: byte by byte, each byte stored makes the front one byte longer; and piece by piece.
-use mathlib.Core.List.{List, [], _∷_, _++_, append-assoc, append-nil}
-use mathlib.Core.Path.{_≡_, ap, sym, _∙_}
-use Prim.Native.Nat.{ℕ, _+_, _<_, _≤_}
-use native.Mathlib.Nat.{add-zero, add-suc}
-use native.Mathlib.Numerals.{add-one}
+-- Text put behind text: a run put behind a run is one run (`sets-sets`), and what is put behind a text takes the place of zeros (`padded-more`).
+use mathlib.Core.List.{List, [], _++_}
+use mathlib.Core.Path.{_≡_, sym, ap, ap₂, _∙_}
+use Prim.Native.Nat.{ℕ, _+_, _≤_}
 use native.Mathlib.Omega.{arith}
-use lib.ListN.{length, take, getD, set, length-append, length-take}
-use lib.Seq.{take-all, take-suc, take-suc-set}
+use lib.ListN.{length, length-append}
+use Rattle.text.proofs.Padding.{padded-room, padded-more}
+use Rattle.header.proofs.Stores.{sets-sets}
 use Rattle.display.specs.declared.Piece.{Piece}
-use Rattle.display.specs.Shown.{held, Holds, Extends}
+use Rattle.display.specs.Shown.{pieceMost, pieceOf, extended}
 
--- ---- byte by byte
-pub behind-none : (bytes text : List ℕ) (at : ℕ) → take (at + 0) bytes ≡ take at bytes ++ take 0 text
-behind-none bytes text at = simp (add-zero, append-nil)
+abbrev pub piece : List ℕ → ℕ → Piece
+piece bytes length = record { bytes = bytes; length = length }
 
-pub behind-more : (front bytes text : List ℕ) (at i : ℕ) → i < length text → at + i < length bytes → take (at + i) bytes ≡ front ++ take i text
-    → take (at + (i + 1)) (set bytes (at + i) (getD text i 0)) ≡ front ++ take (i + 1) text
-behind-more front bytes text at i h l e =
-    rw (add-one i, add-suc at i)
-    (take-suc-set bytes (at + i) (getD text i 0) l
-    ∙ ap (λ (t : List ℕ). t ++ (getD text i 0 ∷ [])) e
-    ∙ append-assoc front (take i text) (getD text i 0 ∷ [])
-    ∙ ap (λ (t : List ℕ). front ++ t) (sym (take-suc text i 0 h)))
+pub long : {p q : Piece} → p ≡ q → p .length ≡ q .length
+long e = ap (λ (p : Piece). p .length) e
 
-pub behind-all : (p : Piece) (text bytes : List ℕ) (n : ℕ) → n ≡ length text → take (p .length + n) bytes ≡ held p ++ take n text → Extends p text (record { bytes = bytes; length = p .length + n })
-behind-all p text bytes n all e = record { text-is = e ∙ ap (λ (t : List ℕ). held p ++ t) (take-all n text (omega arith)); length-is = omega arith }
+-- ---- behind any piece
+pub extended-more : (p : Piece) (a b : List ℕ) {q r : Piece} → q ≡ extended p a → r ≡ extended q b → r ≡ extended p (a ++ b)
+extended-more p a b e f = f ∙ rw e (ap₂ piece (sets-sets (p .bytes) (p .length) a b) (omega (arith, length-append a b)))
 
--- ---- piece by piece
-pub holds-more : {p q : Piece} {a b : List ℕ} → Holds p a → Extends p b q → Holds q (a ++ b)
-holds-more {a = a} {b = b} h k = record {
-  text-is = k .text-is ∙ ap (λ (t : List ℕ). t ++ b) (h .text-is);
-  length-is = omega (arith, h .length-is, k .length-is, length-append a b);
-}
+-- ---- behind a piece that holds a text
+pub holds-more : (a b : List ℕ) {p q : Piece} → p ≡ pieceOf a → q ≡ extended p b → q .length ≤ pieceMost → q ≡ pieceOf (a ++ b)
+holds-more a b e f fits = f ∙ rw e (ap₂ piece (padded-more pieceMost a b (omega (arith, long e, long f))) (sym (length-append a b)))
 
-pub extends-more : {p q r : Piece} {a b : List ℕ} → Extends p a q → Extends q b r → Extends p (a ++ b) r
-extends-more {p} {a = a} {b = b} h k = record {
-  text-is = k .text-is ∙ ap (λ (t : List ℕ). t ++ b) (h .text-is) ∙ append-assoc (held p) a b;
-  length-is = omega (arith, h .length-is, k .length-is, length-append a b);
-}
+-- behind one that holds nothing
+pub holds : (text : List ℕ) {p q : Piece} → p ≡ pieceOf [] → q ≡ extended p text → q .length ≤ pieceMost → q ≡ pieceOf text
+holds text e f fits = holds-more [] text e f fits
 
-pub holds-within : {p : Piece} {a : List ℕ} → Holds p a → p .length ≤ length (p .bytes)
-holds-within {p} h = omega (arith, h .length-is, ap length (h .text-is), length-take (p .length) (p .bytes))
+pub holds-within : (text : List ℕ) {p : Piece} → p ≡ pieceOf text → p .length ≤ length (p .bytes)
+holds-within text e = rw e (padded-room pieceMost text)

@@ -17,7 +17,7 @@ use Rattle.text.specs.declared.Line.{Line}
 use Rattle.text.specs.declared.Line.the-variants as L
 use Rattle.text.specs.Decimal.{parsed}
 use Rattle.text.specs.Line.{newline, before, starts, numbered, lineAt}
-use Rattle.text.proofs.Digits.{length-20}
+use Rattle.text.proofs.Digits.{length-most}
 use Rattle.text.proofs.Lines.{Written, written, line-length}
 use Rattle.text.proofs.Reading.{Spelt, spelt}
 use Rattle.text.proofs.Search.{Free, before-le, before-in, before-past}
@@ -105,7 +105,7 @@ module _ (key : List ℕ) (low high : ℕ) (small : high < 2 ^ 64) where
       go true N.Wrong e = refl
       go true (N.Value v) e =
           let w : Spelt low high (drop (length key) line) v = spelt low high _ v e in
-          absurd (let z : ⊥ = omega (arith, ap length (w .text-is), length-drop (length key) line, length-20 v (omega (arith, w .most))) in z)
+          absurd (let z : ⊥ = omega (arith, ap length (w .text-is), length-drop (length key) line, length-most v (omega (arith, w .most))) in z)
 
   pub line-long : (l rest : List ℕ) → length key + 20 < length l → lineAt key low high (l ++ rest) ≡ prolonged (hasEnd rest) (lineAt key low high l)
   unfolding lineAt
@@ -118,7 +118,7 @@ module _ (key : List ℕ) (low high : ℕ) (small : high < 2 ^ 64) where
   pub line-short : (l : List ℕ) (v n : ℕ) → lineAt key low high l ≡ L.Number v n → n ≤ length key + 21
   line-short l v n e =
       let w : Written key low high l v n = written key low high l v n e in
-      omega (arith, w .length-is, line-length key v, length-20 v (omega (arith, w .most)))
+      omega (arith, w .length-is, line-length key v, length-most v (omega (arith, w .most)))
 
 -- ---- the line of the curve
 words-short : (c : Curve) → length (curveWords c) ≤ 12

@@ -7,8 +7,8 @@ use lib.IntN.{ℤ, pos, negsuc, natAbs}
 use lib.ListN.{length}
 use lib.Signed.{mag}
 use Rattle.integers.specs.Distance.{up, down}
-use Rattle.text.specs.Decimal.{digits}
-use Rattle.text.proofs.Digits.{length-20}
+use Rattle.text.specs.Decimal.{digits, charactersMost}
+use Rattle.text.proofs.Digits.{length-most}
 use Rattle.header.specs.Header.{asciiFrom, ascii}
 use Rattle.display.specs.Shown.{signed}
 
@@ -32,8 +32,8 @@ signed-above (negsuc m) l = absurd (never m l)
     never : (m : ℕ) → suc m ≤ 0 → ⊥
     never m l = omega arith
 
--- at most a minus and twenty digits
-pub signed-length : (x : ℤ) → mag x < 2 ^ 63 → length (signed x) ≤ 21
+-- at most a minus and the characters of a u64
+pub signed-length : (x : ℤ) → mag x < 2 ^ 63 → length (signed x) ≤ charactersMost + 1
 unfolding signed asciiFrom
-signed-length (pos n) h = omega (arith, length-20 n (omega arith))
-signed-length (negsuc n) h = omega (arith, length-20 (suc n) (omega arith))
+signed-length (pos n) h = omega (arith, length-most n (omega arith))
+signed-length (negsuc n) h = omega (arith, length-most (suc n) (omega arith))

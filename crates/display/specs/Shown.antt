@@ -1,18 +1,23 @@
 -- What the program show prints (document 01, end of "Worked on the bench"): "sizes, planes used, figure, then a line of values per row".
 use mathlib.Core.Bool.{Bool, cond, not, _&&_}
 use mathlib.Core.List.{List, [], _∷_, _++_}
-use mathlib.Core.Path.{_≡_}
-use Prim.Native.Nat.{ℕ, zero, suc, _+_, _-_, _*_, _%_}
+use Prim.Native.Nat.{ℕ, zero, suc, _+_, _*_, _-_, _%_}
 use lib.Dec.{ltb, eqb}
 use lib.IntN.{ℤ, pos, negsuc}
 use lib.ListN.{length, getD, take, drop, replicate}
-use Rattle.layers.specs.Sheet.{points}
-use Rattle.text.specs.Decimal.{digits}
+use lib.Seq.{sets}
+use Rattle.layers.specs.declared.Shape.{Shape}
+use Rattle.layers.specs.Limits.{layersMost}
+use Rattle.layers.specs.Sheet.{points, layers}
+use Rattle.text.specs.Text.{padded}
+use Rattle.text.specs.Decimal.{digits, charactersMost}
 use Rattle.text.specs.Line.{newline, before, lineText}
 use Rattle.header.specs.declared.Plan.{Plan}
 use Rattle.header.specs.Header.{ascii, comma, listText}
 use Rattle.header.specs.Opening.{opening}
 use Rattle.card.specs.Reading.{Reading, showing}
+use Rattle.display.specs.declared.Ahead.{Ahead}
+use Rattle.display.specs.declared.Ahead.the-variants.{End, Nothing, More}
 use Rattle.display.specs.declared.Piece.{Piece}
 use Rattle.display.specs.declared.Shown.{Shown}
 
@@ -23,8 +28,8 @@ signed (pos n) = digits n
 signed (negsuc n) = ascii "-" ++ digits (suc n)
 
 -- "planes used": a count for each of the 1 + 2L layers
-unfoldable pub loadedText : ℕ → Plan → List ℕ
-loadedText levels plan = ascii "loaded=" ++ listText (take (1 + 2 * levels) (plan .planes)) ++ newline ∷ []
+unfoldable pub loadedText : Shape → Plan → List ℕ
+loadedText sh plan = ascii "loaded=" ++ listText (take (layers sh) (plan .planes)) ++ newline ∷ []
 
 -- "a line of values per row"
 unfoldable pub valuesText : List ℤ → List ℕ
@@ -43,7 +48,7 @@ textOf s vs =
     cond (eqb (s .number) 0)
     (lineText (ascii "rows=") (s .shape .rows)
     ++ lineText (ascii "cols=") (s .shape .cols)
-    ++ loadedText (s .shape .levels) (s .plan)
+    ++ loadedText (s .shape) (s .plan)
     ++ lineText (ascii "figure=") (s .figure)
     ++ rowsText (s .shape .rows) (s .shape .cols) vs)
     (lineText (ascii "refused=") (s .number))
@@ -66,28 +71,20 @@ unfoldable pub shownText : List ℕ → List ℕ
 shownText bs = textOf (shownOf bs) (valuesOf bs)
 
 -- ---- the pieces that are written one after the other
--- room in a piece: for a u64's characters, for a key, and for the longest line, which is that of the planes
-abbrev pub digitsMost : ℕ
-digitsMost = 20
-
+-- room in a piece: for a key, and for the longest line, which is that of the planes: a comma or the line's end stands behind each count
 abbrev pub keyMost : ℕ
 keyMost = 8
 
 abbrev pub pieceMost : ℕ
-pieceMost = 288
+pieceMost = keyMost + layersMost * (charactersMost + 1)
 
--- the text that a piece holds
-abbrev pub held : Piece → List ℕ
-held p = take (p .length) (p .bytes)
+-- the piece that holds a text
+abbrev pub pieceOf : List ℕ → Piece
+pieceOf text = record { bytes = padded pieceMost text; length = length text }
 
-pub record Holds (p : Piece) (text : List ℕ) : Type 0 where
-  pub text-is : held p ≡ text
-  pub length-is : p .length ≡ length text
-
--- a piece with a text put behind it
-pub record Extends (p : Piece) (text : List ℕ) (longer : Piece) : Type 0 where
-  pub text-is : held longer ≡ held p ++ text
-  pub length-is : longer .length ≡ p .length + length text
+-- a piece with a text put behind its own
+abbrev pub extended : Piece → List ℕ → Piece
+extended p text = record { bytes = sets (p .bytes) (p .length) text; length = p .length + length text }
 
 -- what stands before and behind a value in its line: the key before the first, a comma behind, or the line's end behind the last
 abbrev pub rowStart : ℕ → List ℕ
@@ -103,12 +100,15 @@ valuePiece vs cols i =
     (rowStart (i % cols) ++ signed (getD vs i (pos 0)) ++ rowEnd (eqb (i % cols + 1) cols))
     []
 
--- the lines before the values, and the one line of a refused card
+-- the lines before the values, how many they are, and the one line of a refused card
+abbrev pub sheetLines : ℕ
+sheetLines = 4
+
 abbrev pub sheetLine : Shown → ℕ → List ℕ
 sheetLine s i =
     cond (eqb i 0) (lineText (ascii "rows=") (s .shape .rows))
     (cond (eqb i 1) (lineText (ascii "cols=") (s .shape .cols))
-    (cond (eqb i 2) (loadedText (s .shape .levels) (s .plan)) (lineText (ascii "figure=") (s .figure))))
+    (cond (eqb i 2) (loadedText (s .shape) (s .plan)) (lineText (ascii "figure=") (s .figure))))
 
 abbrev pub refusedLine : ℕ → ℕ → List ℕ
 refusedLine number i = cond (eqb i 0) (lineText (ascii "refused=") number) []
@@ -117,11 +117,11 @@ refusedLine number i = cond (eqb i 0) (lineText (ascii "refused=") number) []
 unfoldable pub pieceAt : Shown → List ℤ → ℕ → List ℕ
 pieceAt s vs i =
     cond (eqb (s .number) 0)
-    (cond (ltb i 4) (sheetLine s i) (valuePiece vs (s .shape .cols) (i - 4)))
+    (cond (ltb i sheetLines) (sheetLine s i) (valuePiece vs (s .shape .cols) (i - sheetLines)))
     (refusedLine (s .number) i)
 
 abbrev pub pieces : ℕ → List ℤ → ℕ
-pieces number vs = cond (eqb number 0) (4 + length vs) 1
+pieces number vs = cond (eqb number 0) (sheetLines + length vs) 1
 
 -- n pieces in order, from piece i on
 unfoldable pub inOrder : (ℕ → List ℕ) → ℕ → ℕ → List ℕ
@@ -136,6 +136,13 @@ bufferBytes = 40000
 -- is there a byte 10?
 unfoldable pub hasEnd : List ℕ → Bool
 hasEnd bs = ltb (before newline bs) (length bs)
+
+-- what the bytes of one turn tell of what follows, where so many are looked at in a turn: a byte 10, or none, and then fewer bytes are the file's last
+abbrev pub chunkBytes : ℕ
+chunkBytes = 4096
+
+abbrev pub aheadOf : List ℕ → Ahead
+aheadOf bs = cond (hasEnd bs) End (cond (ltb (length bs) chunkBytes) Nothing More)
 
 -- the number of such an input's refusal, from that of its first bytes and whether a byte 10 follows them. "5, bytes end before a line's byte 10. 6, a line
 -- is wrong": where the first bytes end before a line's byte 10 and it follows, the line is too long to be right

@@ -7,6 +7,8 @@ ghost use Rattle.layers.specs.Limits.{pointsMost};
 ghost use Rattle.layers.specs.Sheet.{points};
 ghost use Rattle.header.specs.Opening as O;
 ghost use Rattle.display.specs.Shown as S;
+use crate::Ahead;
+use crate::CHUNK;
 use crate::Shown;
 
 // What is shown of a card that is all there, with its values at the front of their slice.
@@ -43,10 +45,23 @@ pub(crate) fn opening_number(bytes: &[u8]) -> u64
 }
 
 // Is there a byte 10?
-pub(crate) fn has_end(bytes: &[u8]) -> bool
+fn has_end(bytes: &[u8]) -> bool
     ensures { λ r. ⌜ r ≡ S.hasEnd (now (bytes .entry)) ⌝ }
 {
-    text::find(bytes, 0, 10) < bytes.len()
+    text::find(bytes, 0, b'\n') < bytes.len()
+}
+
+// What the bytes of one turn tell of a file: fewer than were asked for are its last.
+pub(crate) fn ahead_of(bytes: &[u8]) -> Ahead
+    ensures { λ r. ⌜ r ≡ S.aheadOf (now (bytes .entry)) ⌝ }
+{
+    if has_end(bytes) {
+        return Ahead::End;
+    }
+    if bytes.len() < CHUNK {
+        return Ahead::Nothing;
+    }
+    Ahead::More
 }
 
 // The number of the refusal of an input that is longer than any card: that of its first bytes, but for a line whose byte 10 comes later.

@@ -4,14 +4,18 @@ mod pieces;
 mod printing;
 
 use header::Plan;
+use layers::MOST_LAYERS;
 use layers::Shape;
 pub use pieces::piece_at;
 pub use printing::show;
+use text::MOST_CHARACTERS;
 
-// Room for the longest piece, which is the line of planes.
-pub const MOST_PIECE: usize = 288;
+// Room for a key, and for the longest piece, which is the line of planes: a comma or the line's end stands behind each count.
+const MOST_KEY: usize = 8;
 
-// A piece of the text: the first `length` of the bytes.
+pub const MOST_PIECE: usize = MOST_KEY + MOST_LAYERS * (MOST_CHARACTERS + 1);
+
+// A piece of the text: the first `length` of the bytes; zeros follow.
 pub struct Piece {
     pub bytes: [u8; MOST_PIECE],
     pub length: usize,
@@ -24,3 +28,13 @@ pub struct Shown {
     pub plan: Plan,
     pub figure: u64,
 }
+
+// What the next bytes of a file hold: a byte 10, none and the file's end, or none yet.
+pub(crate) enum Ahead {
+    End,
+    Nothing,
+    More,
+}
+
+// How much of a file is looked at in one turn.
+pub(crate) const CHUNK: usize = 4096;

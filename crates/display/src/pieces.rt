@@ -14,10 +14,13 @@ use crate::Piece;
 use crate::Shown;
 use header::Plan;
 use layers::MOST_LAYERS;
-use layers::MOST_LEVELS;
+use layers::Shape;
+
+// The lines before the values.
+const SHEET_LINES: usize = 4;
 
 fn nothing() -> Piece
-    ensures { λ r. ⌜ S.Holds r [] ⌝ }
+    ensures { λ r. ⌜ r ≡ S.pieceOf [] ⌝ }
 {
     Piece {
         bytes: [0; MOST_PIECE],
@@ -28,23 +31,17 @@ fn nothing() -> Piece
 // A piece with a text behind it.
 fn with_text(piece: Piece, text: &[u8]) -> Piece
     requires { ⌜ piece .length + length (now text) ≤ S.pieceMost ⌝ }
-    ensures { λ r. ⌜ S.Extends piece (now (text .entry)) r ⌝ }
+    ensures { λ r. ⌜ r ≡ S.extended piece (now (text .entry)) ⌝ }
 {
     let mut bytes = piece.bytes;
-    let at = piece.length;
-    for i in 0..text.len() {
-        bytes[at + i] = text[i];
-    }
-    Piece {
-        bytes,
-        length: at + text.len(),
-    }
+    let length = text::put(&mut bytes, piece.length, text);
+    Piece { bytes, length }
 }
 
 // A piece with a number behind it.
 fn with_number(piece: Piece, n: u64) -> Piece
-    requires { ⌜ piece .length + S.digitsMost ≤ S.pieceMost ⌝ }
-    ensures { λ r. ⌜ S.Extends piece (T.digits n) r ⌝ }
+    requires { ⌜ piece .length + T.charactersMost ≤ S.pieceMost ⌝ }
+    ensures { λ r. ⌜ r ≡ S.extended piece (T.digits n) ⌝ }
 {
     let text = text::to_decimal(n);
     let bytes = text.bytes;
@@ -65,8 +62,8 @@ fn magnitude(value: i64) -> u64
 
 // A piece with a value behind it, a minus before a negative one.
 fn with_value(piece: Piece, value: i64) -> Piece
-    requires { ⌜ piece .length + 1 + S.digitsMost ≤ S.pieceMost ⌝ }
-    ensures { λ r. ⌜ S.Extends piece (S.signed value) r ⌝ }
+    requires { ⌜ piece .length + 1 + T.charactersMost ≤ S.pieceMost ⌝ }
+    ensures { λ r. ⌜ r ≡ S.extended piece (S.signed value) ⌝ }
 {
     if value < 0 {
         with_number(with_text(piece, b"-"), magnitude(value))
@@ -78,7 +75,7 @@ fn with_value(piece: Piece, value: i64) -> Piece
 // The line of a key and a number.
 pub(crate) fn line(key: &[u8], n: u64) -> Piece
     requires { ⌜ length (now key) ≤ S.keyMost ⌝ }
-    ensures { λ r. ⌜ S.Holds r (L.lineText (now (key .entry)) n) ⌝ }
+    ensures { λ r. ⌜ r ≡ S.pieceOf (L.lineText (now (key .entry)) n) ⌝ }
 {
     with_text(with_number(with_text(nothing(), key), n), b"\n")
 }
@@ -86,7 +83,7 @@ pub(crate) fn line(key: &[u8], n: u64) -> Piece
 // The first `count` numbers, commas between.
 fn with_list(piece: Piece, numbers: [u64; MOST_LAYERS], count: usize) -> Piece
     requires { ⌜ (piece .length ≤ S.keyMost) × (0 < count) × (count ≤ layersMost) ⌝ }
-    ensures { λ r. ⌜ S.Extends piece (Hd.listText (take count numbers)) r ⌝ }
+    ensures { λ r. ⌜ r ≡ S.extended piece (Hd.listText (take count numbers)) ⌝ }
 {
     let mut out = with_number(piece, numbers[0]);
     for i in 1..count {
@@ -95,29 +92,18 @@ fn with_list(piece: Piece, numbers: [u64; MOST_LAYERS], count: usize) -> Piece
     out
 }
 
-// How many counts the line of planes has.
-fn listed(levels: usize) -> usize
-    ensures { λ r. ⌜ r ≡ Hd.listed levels ⌝ }
-{
-    if levels < MOST_LEVELS {
-        2 * levels + 1
-    } else {
-        MOST_LAYERS
-    }
-}
-
 // The line of the planes loaded.
-pub(crate) fn loaded_line(levels: usize, plan: Plan) -> Piece
-    ensures { λ r. ⌜ S.Holds r (S.loadedText levels plan) ⌝ }
+pub(crate) fn loaded_line(shape: Shape, plan: Plan) -> Piece
+    ensures { λ r. ⌜ r ≡ S.pieceOf (S.loadedText shape plan) ⌝ }
 {
     let planes = plan.planes;
     let key = with_text(nothing(), b"loaded=");
-    with_text(with_list(key, planes, listed(levels)), b"\n")
+    with_text(with_list(key, planes, layers::layer_count(shape)), b"\n")
 }
 
 // What stands before a value: the key of its line, where it is the first.
 fn row_start(column: usize) -> Piece
-    ensures { λ r. ⌜ S.Holds r (S.rowStart column) ⌝ }
+    ensures { λ r. ⌜ r ≡ S.pieceOf (S.rowStart column) ⌝ }
 {
     if column == 0 {
         with_text(nothing(), b"row=")
@@ -129,7 +115,7 @@ fn row_start(column: usize) -> Piece
 // What stands behind a value: a comma, or the line's end behind the last.
 fn with_end(piece: Piece, last: bool) -> Piece
     requires { ⌜ piece .length + 1 ≤ S.pieceMost ⌝ }
-    ensures { λ r. ⌜ S.Extends piece (S.rowEnd last) r ⌝ }
+    ensures { λ r. ⌜ r ≡ S.extended piece (S.rowEnd last) ⌝ }
 {
     if last {
         with_text(piece, b"\n")
@@ -140,7 +126,7 @@ fn with_end(piece: Piece, last: bool) -> Piece
 
 // Value i of a sheet of so many columns, with what stands before and behind it in its line; nothing where there is none.
 pub(crate) fn value_piece(values: &[i64], cols: usize, i: usize) -> Piece
-    ensures { λ r. ⌜ S.Holds r (S.valuePiece (now (values .entry)) cols i) ⌝ }
+    ensures { λ r. ⌜ r ≡ S.pieceOf (S.valuePiece (now (values .entry)) cols i) ⌝ }
 {
     if values.len() <= i {
         return nothing();
@@ -153,14 +139,13 @@ pub(crate) fn value_piece(values: &[i64], cols: usize, i: usize) -> Piece
     with_end(piece, column + 1 == cols)
 }
 
-// The four lines before the values.
+// Line i of those before the values.
 fn sheet_line(shown: Shown, i: usize) -> Piece
-    ensures { λ r. ⌜ S.Holds r (S.sheetLine shown i) ⌝ }
+    ensures { λ r. ⌜ r ≡ S.pieceOf (S.sheetLine shown i) ⌝ }
 {
     let shape = shown.shape;
     let rows = shape.rows;
     let cols = shape.cols;
-    let levels = shape.levels;
     let plan = shown.plan;
     if i == 0 {
         return line(b"rows=", rows as u64);
@@ -169,14 +154,14 @@ fn sheet_line(shown: Shown, i: usize) -> Piece
         return line(b"cols=", cols as u64);
     }
     if i == 2 {
-        return loaded_line(levels, plan);
+        return loaded_line(shape, plan);
     }
     line(b"figure=", shown.figure)
 }
 
 // The one line of a refused card.
 fn refused_line(number: u64, i: usize) -> Piece
-    ensures { λ r. ⌜ S.Holds r (S.refusedLine number i) ⌝ }
+    ensures { λ r. ⌜ r ≡ S.pieceOf (S.refusedLine number i) ⌝ }
 {
     if i == 0 {
         line(b"refused=", number)
@@ -187,15 +172,15 @@ fn refused_line(number: u64, i: usize) -> Piece
 
 // Piece i of the text that is printed; nothing past the last.
 pub fn piece_at(shown: Shown, values: &[i64], i: usize) -> Piece
-    ensures { λ r. ⌜ S.Holds r (S.pieceAt shown (now (values .entry)) i) ⌝ }
+    ensures { λ r. ⌜ r ≡ S.pieceOf (S.pieceAt shown (now (values .entry)) i) ⌝ }
 {
     let shape = shown.shape;
     let cols = shape.cols;
     if shown.number != 0 {
         return refused_line(shown.number, i);
     }
-    if 4 <= i {
-        return value_piece(values, cols, i - 4);
+    if SHEET_LINES <= i {
+        return value_piece(values, cols, i - SHEET_LINES);
     }
     sheet_line(shown, i)
 }
@@ -205,5 +190,9 @@ pub(crate) fn pieces(number: u64, values: &[i64]) -> usize
     requires { ⌜ length (now values) ≤ pointsMost ⌝ }
     ensures { λ r. ⌜ r ≡ S.pieces number (now (values .entry)) ⌝ }
 {
-    if number != 0 { 1 } else { 4 + values.len() }
+    if number != 0 {
+        1
+    } else {
+        SHEET_LINES + values.len()
+    }
 }

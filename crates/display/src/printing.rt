@@ -5,9 +5,11 @@ ghost use lib.IntN.{pos};
 ghost use lib.ListN.{length, replicate};
 ghost use Rattle.layers.specs.Limits.{pointsMost};
 ghost use Rattle.display.specs.Shown as S;
+use crate::Ahead;
+use crate::CHUNK;
 use crate::Piece;
 use crate::Shown;
-use crate::answers::has_end;
+use crate::answers::ahead_of;
 use crate::answers::long_number;
 use crate::answers::opening_number;
 use crate::answers::shown_of;
@@ -17,10 +19,8 @@ use crate::pieces::pieces;
 use layers::MOST_POINTS;
 use libc::STDOUT_FILENO;
 
-// More than any card has, and how much is looked at in one turn behind it.
+// More than any card has.
 const BUFFER: usize = 40000;
-
-const CHUNK: usize = 4096;
 
 fn write(piece: Piece)
     requires { ⌜ piece .length ≤ S.pieceMost ⌝ }
@@ -58,29 +58,16 @@ fn show_bytes(bytes: &[u8]) {
     show_in(bytes, &mut coefficients, &mut values);
 }
 
-// What the next bytes of a file hold: a byte 10, none and the file's end, or none yet.
-enum Ahead {
-    End,
-    Nothing,
-    More,
-}
-
+// What the file's next bytes hold.
 fn look(file: i32) -> Ahead {
     let mut buffer = [0u8; CHUNK];
     let n = io::read_full(file, &mut buffer);
-    if has_end(&buffer[..n]) {
-        return Ahead::End;
-    }
-    if n < CHUNK {
-        Ahead::Nothing
-    } else {
-        Ahead::More
-    }
+    ahead_of(&buffer[..n])
 }
 
 // Does a byte 10 follow in the file? The turns are more than any file uses up.
 fn ends_later(file: i32) -> bool {
-    let mut turns: u64 = 18446744073709551615;
+    let mut turns = u64::MAX;
     while 0 < turns {
         match look(file) {
             Ahead::End => return true,

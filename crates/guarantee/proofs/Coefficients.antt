@@ -2,7 +2,7 @@
 use mathlib.Core.Bool.{true, cond}
 use mathlib.Core.List.{List}
 use mathlib.Core.Path.{_≡_, sym, ap, _∙_, subst}
-use Prim.Native.Nat.{ℕ, suc, _-_, _<_}
+use Prim.Native.Nat.{ℕ, zero, suc, _-_, _<_}
 use native.Mathlib.Decide.{decLt}
 use native.Mathlib.Omega.{arith}
 use lib.IntN.{pos, _+ℤ_, _*ℤ_}
@@ -13,6 +13,7 @@ use Rattle.digits.specs.Digits.{value, Binary, weight, digitAt, truncate}
 use Rattle.digits.proofs.Range.{Holds, range}
 use Rattle.digits.proofs.Value.{length-truncate}
 use Rattle.digits.proofs.Places.{truncate-none, truncate-step}
+use Rattle.digits.proofs.Missing.{digit-back, missing-below, kept-above}
 use Rattle.layers.specs.declared.Curve.the-variants.{Linear}
 use Rattle.layers.specs.Lists.{at, tabulate}
 use Rattle.layers.specs.Sheet.{accepted, points, layers, inLayer, layerSize, pointOf, placeIn}
@@ -24,7 +25,11 @@ use Rattle.header.specs.declared.Header.{Header}
 use Rattle.header.specs.Header.{planesOf}
 use Rattle.card.specs.Reading.{bitOf, loaded, coefRead, coefsRead}
 use Rattle.card.proofs.LayerPlanes.{loaded-by, loaded-no}
-use Rattle.guarantee.proofs.Digits.{binary-tabulate, digit-back, missing-below, kept-above}
+
+binary-tabulate : (n : ℕ) (f : ℕ → ℕ) → ((p : ℕ) → f p < 2) → Binary (tabulate n f)
+unfolding tabulate
+binary-tabulate zero f h = tt
+binary-tabulate (suc n) f h = (h 0, binary-tabulate n (λ p. f (suc p)) (λ p. h (suc p)))
 
 module _ (h : Header) (long : ℕ) (bs : List ℕ) where
   -- ---- the point at place i of layer k

@@ -1,4 +1,4 @@
--- A card of coefficients, pulled behind its header: it opens to the header that was written, since fewer bytes behind the text change nothing of it. And the bits of a plane that is whole in it are those that were written, since every byte of such a plane is left.
+-- A card of coefficients, truncated behind its header: it opens to the header that was written, since fewer bytes behind the text change nothing of it. And the bits of a plane that is whole in it are those that were written, since every byte of such a plane is left.
 use mathlib.Core.List.{List}
 use mathlib.Core.Path.{_≡_, ap, _∙_}
 use Prim.Native.Nat.{ℕ, _+_, _*_, _-_, _/_, _%_, _^_, _<_, _≤_}

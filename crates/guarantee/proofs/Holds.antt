@@ -1,4 +1,4 @@
--- DEMAND 3. A writing that is not refused leaves the card of its samples; pulled at any byte behind its header that card opens to the header written, showing it gives the figure of its whole planes, and the planner answers as it does to the whole card.
+-- DEMAND 3. A writing that is not refused leaves the card of its samples; truncated at any byte behind its header that card opens to the header written, showing it gives the figure of its whole planes, and the planner answers as it does to the whole card.
 use mathlib.Core.List.{List}
 use mathlib.Core.Path.{_≡_, refl, ap, _∙_}
 use Prim.Native.Nat.{ℕ, _≤_}
@@ -17,7 +17,7 @@ use Rattle.card.specs.Writing.{Writing, done}
 use Rattle.card.specs.Reading.{showing}
 use Rattle.planner.specs.Planning.{bestByLimit, figureIn, found, byLimit}
 use Rattle.planner.proofs.Best.{by-limit-best}
-use Rattle.guarantee.specs.Guarantee.{Slices, made, wholeCard, pulled, headEnd, Shown, PlannedWithin, Demand3, Guarantee}
+use Rattle.guarantee.specs.Guarantee.{Slices, made, wholeCard, truncated, headEnd, Shown, PlannedWithin, Demand3, Guarantee}
 use Rattle.guarantee.proofs.Fits.{end, fits-full, samples-fit}
 use Rattle.guarantee.proofs.Plans.{best-fewest, plans, plans-whole, plan-gives}
 use Rattle.guarantee.proofs.Shows.{shows, shows-gives, shows-figure}
@@ -54,7 +54,7 @@ module _ (g : List ℤ) (sh : Shape) (curve : Curve) (e : ℕ) (qs vs : List ℤ
 
   -- ---- what is shown
   shown-by : (n : ℕ) → end sh curve e q ≤ n → n ≤ length card → (qs′ vs′ : List ℤ) → Slices sh qs′ vs′
-      → Shown g sh curve e qs vs out n (showing qs′ vs′ (pulled g sh curve e qs vs out n))
+      → Shown g sh curve e qs vs out n (showing qs′ vs′ (truncated g sh curve e qs vs out n))
   shown-by n behind most qs′ vs′ s =
       rw (whole-is, shows samples curve n behind qs′ vs′ s)
       (record { gives = shows-gives samples curve n behind; figure = rw coefs-are (omega (arith, shows-figure samples curve n behind most)) })

@@ -4,7 +4,6 @@ mod Carried
 mod Cells
 mod Coefficients
 mod Cut
-mod Digits
 mod Enough
 mod Fine
 mod Fits

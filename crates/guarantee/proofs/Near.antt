@@ -9,6 +9,7 @@ use Rattle.integers.specs.Distance.{Near}
 use Rattle.digits.specs.Digits.{digitsOf, loss}
 use Rattle.digits.proofs.Range.{Holds}
 use Rattle.digits.proofs.Expansion.{digits-length, digits-at, digits-near}
+use Rattle.digits.proofs.Missing.{truncate-same}
 use Rattle.layers.specs.declared.Shape.{Shape}
 use Rattle.layers.specs.declared.Curve.{Curve}
 use Rattle.layers.specs.Lists.{at}
@@ -30,7 +31,6 @@ use Rattle.card.proofs.ReadCall.{readAs}
 use Rattle.guarantee.specs.Guarantee.{Gives}
 use Rattle.guarantee.proofs.Coefficients.{bits, length-bits, bit-at, coef-is, coef-at}
 use Rattle.guarantee.proofs.Carried.{Carries, carried-digit}
-use Rattle.guarantee.proofs.Digits.{truncate-same}
 use Rattle.guarantee.proofs.Enough.{planes-hold}
 use Rattle.guarantee.proofs.Fits.{Fits, fits-right, samples-fit}
 

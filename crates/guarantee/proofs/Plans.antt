@@ -1,4 +1,4 @@
--- The planner's answer to a limit. A pulled card opens to the header written, so it has the best plan of the whole card. Every plan of the header asks for planes that are whole in the whole card, so reading that card with it gives its figure, which is within the limit; and no plan within the limit is better, so none has fewer cells.
+-- The planner's answer to a limit. A truncated card opens to the header written, so it has the best plan of the whole card. Every plan of the header asks for planes that are whole in the whole card, so reading that card with it gives its figure, which is within the limit; and no plan within the limit is better, so none has fewer cells.
 use mathlib.Core.List.{List}
 use mathlib.Core.Path.{_≡_}
 use Prim.Native.Nat.{ℕ, _-_, _*_, _≤_}
@@ -24,7 +24,7 @@ use Rattle.planner.specs.Planning.{Best, PlanOf, withinLimit, better, betterByL
 use Rattle.guarantee.specs.Guarantee.{Slices, Gives}
 use Rattle.guarantee.proofs.Cut.{cut-opens}
 use Rattle.guarantee.proofs.Fits.{end, fits-right, fits-long, samples-fit}
-use Rattle.guarantee.proofs.Shows.{pulled-reads, pulled-gives}
+use Rattle.guarantee.proofs.Shows.{truncated-reads, truncated-gives}
 use Rattle.guarantee.proofs.Taken.{AsksWhole}
 
 -- the best plan of a header has the fewest cells
@@ -46,7 +46,7 @@ module _ {sh : Shape} {e : ℕ} {g : List ℤ} (x : Samples sh e g) (curve : Cur
   all-behind : long ≤ length card
   all-behind = omega (arith, fits-long (samples-fit x curve) curve)
 
-  -- pulled behind its header it has the whole one's answer
+  -- truncated behind its header it has the whole one's answer
   pub plans : (limit : ℕ) → e ≤ limit → (n : ℕ) → long ≤ n → byLimit (take n card) limit ≡ found h (bestByLimit h limit)
   unfolding byLimit
   plans limit above n behind = rw (cut-opens (samples-fit x curve) curve n behind, le-ltb limit e above)
@@ -67,6 +67,6 @@ module _ {sh : Shape} {e : ℕ} {g : List ℤ} (x : Samples sh e g) (curve : Cur
 
     pub plan-gives : (limit : ℕ) → figureIn h ns ≤ limit → (qs′ vs′ : List ℤ) → Slices sh qs′ vs′ → Gives sh g limit (reading qs′ vs′ card plan)
     plan-gives limit within qs′ vs′ s =
-        let reads = rw (take-length card) at (pulled-reads x curve (length card) all-behind plan plan-asks qs′ vs′ s) in
-        let gives = rw (take-length card) at (pulled-gives x curve (length card) all-behind plan plan-asks) in
+        let reads = rw (take-length card) at (truncated-reads x curve (length card) all-behind plan plan-asks qs′ vs′ s) in
+        let gives = rw (take-length card) at (truncated-gives x curve (length card) all-behind plan plan-asks) in
         rw reads (record { taken = gives .taken; near = λ j l. near-le within (gives .near j l) })

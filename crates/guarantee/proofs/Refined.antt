@@ -6,9 +6,10 @@ use lib.IntN.{ℤ}
 use lib.ListN.{length, length-replicate}
 use Rattle.layers.specs.Limits.{layersMost}
 use Rattle.header.specs.declared.Header.{Header}
+use Rattle.header.specs.Plan.{noPlan}
 use Rattle.header.specs.Opening.{opening}
 use Rattle.header.proofs.HeaderLines.{accepting}
-use Rattle.card.specs.Reading.{Reading, reading, noPlan}
+use Rattle.card.specs.Reading.{Reading, reading}
 use Rattle.card.specs.Refining.{refining}
 use Rattle.guarantee.specs.Refinements.{Refinements, refineOnce, refineAll}
 use Rattle.guarantee.proofs.Step.{Reached, step}

@@ -3,6 +3,7 @@ use mathlib.Core.Bool.{cond}
 use mathlib.Core.List.{List}
 use mathlib.Core.Path.{_≡_, refl, ap}
 use Prim.Native.Nat.{ℕ, _≤_}
+use native.Mathlib.Omega.{arith}
 use borrow.Author.Tests.{eq-eqb, le-leb}
 use lib.Dec.{ltb}
 use lib.IntN.{ℤ}
@@ -11,20 +12,22 @@ use Rattle.integers.specs.Floor.{floorDiv, ceilDiv}
 use Rattle.digits.specs.Digits.{evens, odds, lowest, higher, digitAt, holds, firstFrom}
 use Rattle.layers.specs.declared.Curve.the-variants.{Linear}
 use Rattle.layers.specs.Lists.{tabulate, count, nth, total}
-use Rattle.layers.specs.Sheet.{spacing, inLayer, layerSize, pointOf}
+use Rattle.layers.specs.Sheet.{layerCount, spacing, inLayer, layerSize, pointOf}
 use Rattle.layers.specs.Calls.{inRange, goodPrefix, scanned}
 use Rattle.layers.proofs.Worked.{bench-coefs}
 use Rattle.text.specs.Decimal.{digitsIn, digits}
 use Rattle.text.specs.Line.{lineText}
 use Rattle.header.specs.Refusals.{refusal}
-use Rattle.header.specs.Header.{planeCells, cellsOf, asciiFrom, listText, listed, headerText}
-use Rattle.header.specs.Plan.{loads, firstOver}
+use Rattle.header.specs.Header.{planeCells, cellsOf, asciiFrom, listText, headerText}
+use Rattle.header.specs.Plan.{loads}
 use Rattle.header.specs.Opening.{opening}
+use Rattle.header.proofs.Over.{none-over}
 use Rattle.header.proofs.Worked.{benchHeader}
 use Rattle.card.specs.Planes.{allBelow, packed, planeBit, planeBytes, atPlace, downFrom, body, enough, planesFor, countsFor, cardOf}
 use Rattle.card.specs.Writing.{outputLeast, badSizes, done, writing}
-use Rattle.card.specs.Reading.{Reading, wholeOf, readPlan, readOpened, showing}
+use Rattle.card.specs.Reading.{Reading, wholeOf, firstBad, readWhole, readOpened, showing}
 use Rattle.card.specs.Reading as R
+use Rattle.card.proofs.ReadCall.{lengths-good, checked-none}
 use Rattle.planner.specs.Planning.{bestByLimit, bestByCells, found, byLimit, byCells}
 use Rattle.planner.specs.Planning as N
 use Rattle.guarantee.specs.Bench.{shape, samples, coefficients, card, Five}
@@ -34,7 +37,7 @@ use Rattle.guarantee.proofs.RowsOpened.{opened, openings}
 -- "planes=5,1,0, cells=6", and the six planes
 card-is : cardOf shape Linear 1 coefficients ≡ card
 unfolding
-    cardOf headerText lineText digits digitsIn listText listed asciiFrom countsFor planesFor enough allBelow firstFrom holds evens odds
+    cardOf headerText lineText digits digitsIn listText layerCount asciiFrom countsFor planesFor enough allBelow firstFrom holds evens odds
     body downFrom atPlace planeBytes planeBit packed digitAt lowest higher floorDiv pointOf nth
     tabulate planeCells ceilDiv layerSize count inLayer spacing cellsOf total
 card-is = refl
@@ -57,11 +60,13 @@ module _ (qs vs : List ℤ) where
   abbrev pub wholeRead : List ℕ → Reading
   wholeRead bs =
       let plan = wholeOf bs benchHeader 64 in
-      readPlan qs vs bs benchHeader 64 plan (firstOver (loads plan) (loads plan))
+      readWhole qs vs benchHeader 64 bs plan (firstBad benchHeader 64 bs (loads plan))
 
   pub shown : Five qs vs → (bs : List ℕ) → opening bs ≡ opened → showing qs vs bs ≡ wholeRead bs
   unfolding showing readOpened
-  shown five bs o = rw (o, eq-eqb (length qs) 5 (five .coefficients), eq-eqb (length vs) 5 (five .values))
+  shown five bs o =
+      let plan = wholeOf bs benchHeader 64 in
+      rw (o, checked-none qs vs benchHeader plan plan (lengths-good qs vs benchHeader (five .coefficients) (five .values)) (none-over (loads plan) (loads plan) (λ k l. omega arith)))
 
   pub shows : Five qs vs → (bs : List ℕ) → opening bs ≡ opened
       → (showing qs vs bs .plan ≡ wholeRead bs .plan) × (showing qs vs bs .figure ≡ wholeRead bs .figure)

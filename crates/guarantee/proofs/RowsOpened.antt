@@ -1,4 +1,4 @@
--- The bench card as it opens, by computation: whole, and pulled at each byte that document 01's rows name.
+-- The bench card as it opens, by computation: whole, and truncated at each byte that document 01's rows name.
 use mathlib.Core.Path.{_≡_, refl}
 use lib.ListN.{take}
 use Rattle.integers.specs.Floor.{ceilDiv}

@@ -1,4 +1,4 @@
--- Reading a pulled card with a plan that asks for whole planes alone: nothing refuses it, and its values are near the samples by the plan's figure. Showing it is reading it with all its whole planes, and the figure is then that of the planes that are not whole.
+-- Reading a truncated card with a plan that asks for whole planes alone: nothing refuses it, and its values are near the samples by the plan's figure. Showing it is reading it with all its whole planes, and the figure is then that of the planes that are not whole.
 use mathlib.Core.List.{List}
 use mathlib.Core.Path.{_≡_, sym, ap, _∙_}
 use Prim.Native.Nat.{ℕ, _+_, _*_, _-_, _≤_}
@@ -54,7 +54,7 @@ module _ {h : Header} (r : Right h) (n : ℕ) where
       ap (λ (w : ℕ → ℕ). h .step + standing (h .shape) (h .curve) (λ k. loss (planesOf h k - w k) * width (h .step)) (layers (h .shape)))
       (λ i k. loads-whole k i)
 
--- ---- the card of samples, pulled behind its header
+-- ---- the card of samples, truncated behind its header
 module _ {sh : Shape} {e : ℕ} {g : List ℤ} (x : Samples sh e g) (curve : Curve) (n : ℕ) (behind : end sh curve e (coefs (layering sh curve) e g) ≤ n) where
   abbrev q : List ℤ
   q = coefs (layering sh curve) e g
@@ -69,8 +69,8 @@ module _ {sh : Shape} {e : ℕ} {g : List ℤ} (x : Samples sh e g) (curve : Cur
   left = take n (cardOf sh curve e q)
 
   module _ (plan : Plan) (asks : AsksWhole h long left plan) where
-    pub pulled-reads : (qs′ vs′ : List ℤ) → Slices sh qs′ vs′ → reading qs′ vs′ left plan ≡ readAs h long left plan
-    pulled-reads qs′ vs′ s =
+    pub truncated-reads : (qs′ vs′ : List ℤ) → Slices sh qs′ vs′ → reading qs′ vs′ left plan ≡ readAs h long left plan
+    truncated-reads qs′ vs′ s =
         let c = samples-fit x curve in
         passed-reads (record {
           opens = cut-opens c curve n behind;
@@ -78,8 +78,8 @@ module _ {sh : Shape} {e : ℕ} {g : List ℤ} (x : Samples sh e g) (curve : Cur
           taken = record { asks = asks; fine = carried-fine c curve (cut-carries c curve n behind plan asks) };
         })
 
-    pub pulled-gives : Gives sh g (figureOf h (loads plan)) (readAs h long left plan)
-    pulled-gives = values-near x curve (cut-carries (samples-fit x curve) curve n behind plan asks)
+    pub truncated-gives : Gives sh g (figureOf h (loads plan)) (readAs h long left plan)
+    truncated-gives = values-near x curve (cut-carries (samples-fit x curve) curve n behind plan asks)
 
   -- WHAT IS SHOWN
   abbrev all : Plan
@@ -93,10 +93,10 @@ module _ {sh : Shape} {e : ℕ} {g : List ℤ} (x : Samples sh e g) (curve : Cur
   shows-all qs′ vs′ = rw (cut-opens (samples-fit x curve) curve n behind)
 
   pub shows : (qs′ vs′ : List ℤ) → Slices sh qs′ vs′ → showing qs′ vs′ left ≡ readAs h long left all
-  shows qs′ vs′ s = shows-all qs′ vs′ ∙ pulled-reads all all-asks qs′ vs′ s
+  shows qs′ vs′ s = shows-all qs′ vs′ ∙ truncated-reads all all-asks qs′ vs′ s
 
   pub shows-gives : Gives sh g (readAs h long left all .figure) (readAs h long left all)
-  shows-gives = pulled-gives all all-asks
+  shows-gives = truncated-gives all all-asks
 
   pub shows-figure : n ≤ length (cardOf sh curve e q)
       → readAs h long left all .figure ≡ e + standing sh curve (λ k. loss (planesOf h k - whole h (n - long) k) * width e) (layers sh)

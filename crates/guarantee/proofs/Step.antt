@@ -4,8 +4,8 @@ use mathlib.Core.List.{List}
 use mathlib.Core.Path.{_≡_, refl}
 use Prim.Native.Nat.{ℕ, suc, _-_, _<_}
 use native.Mathlib.Omega.{arith}
-use borrow.Author.Tests.{ltb-true, ne-eqb}
-use lib.Dec.{ltb}
+use borrow.Author.Tests.{ltb-true, eqb-false, ne-eqb}
+use lib.Dec.{ltb, eqb}
 use lib.IntN.{ℤ}
 use lib.ListN.{length}
 use Rattle.integers.proofs.Bools.{and-left, and-right, choice}
@@ -17,10 +17,10 @@ use Rattle.header.specs.declared.Plan.{Plan}
 use Rattle.header.specs.declared.Details.{Details}
 use Rattle.header.specs.Refusals.{refusal}
 use Rattle.header.specs.Header.{planesOf}
-use Rattle.header.specs.Plan.{loads, firstOver, withPlane}
+use Rattle.header.specs.Plan.{loads, withPlane}
 use Rattle.header.specs.CardOrder.{whole, wholePlan}
 use Rattle.header.proofs.Rightness.{Right, layers-few}
-use Rattle.card.specs.Reading.{Reading, fine, coefsRead, goodLengths}
+use Rattle.card.specs.Reading.{Reading, fine, coefsRead}
 use Rattle.card.specs.Reading as R
 use Rattle.card.specs.Refining.{allHeld, refineOpened}
 use Rattle.card.proofs.LayerPlanes.{whole-at}
@@ -72,9 +72,8 @@ module _ (h : Header) (long : ℕ) (bs : List ℕ) where
         let limit = loads (wholePlan h (length bs - long)) in
         let there = ltb k (layers (h .shape)) in
         let further = ltb (loads plan k) (limit k) in
-        choice Kept (goodLengths coefficients (rebuild coefficients) h)
-        (λ _. choice Kept (ltb (firstOver limit (loads plan)) layersMost)
-        (λ _. refused (refusal 9 (firstOver limit (loads plan)) 0) (λ e. omega arith))
+        let check = R.firstRefusal coefficients (rebuild coefficients) h (R.wholeOf bs h long) plan in
+        choice Kept (eqb (check .number) 0)
         (λ _. choice Kept (there && further)
         (λ e.
         let hk = ltb-true k (layers (h .shape)) (and-left there further e) in
@@ -85,5 +84,5 @@ module _ (h : Header) (long : ℕ) (bs : List ℕ) where
         (λ ok. refined hk room ok)
         (λ _. refused (refusal 8 k 0) (λ e. omega arith)))
         (λ _. refused (refusal 11 0 0) (λ e. omega arith)))
-        (λ _. refused (refusal 9 k 0) (λ e. omega arith))))
-        (λ _. refused (refusal 3 0 0) (λ e. omega arith))
+        (λ _. refused (refusal 9 k 0) (λ e. omega arith)))
+        (λ n. refused check (eqb-false (check .number) 0 n))

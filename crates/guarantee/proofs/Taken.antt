@@ -21,10 +21,10 @@ use Rattle.header.specs.Opening.{Opening, opening}
 use Rattle.header.specs.CardOrder.{whole, wholePlan}
 use Rattle.header.proofs.HeaderLines.{accepting, lines-of, opening-of}
 use Rattle.header.proofs.Opens.{Opens, opened-right}
-use Rattle.header.proofs.Over.{before-over, none-over}
+use Rattle.header.proofs.Over.{none-over}
 use Rattle.header.proofs.Rightness.{Right, right-yes}
-use Rattle.card.specs.Reading.{fine, loaded, slotLayer, slotPlace, badSlot, slots, firstBad, goodLengths, readOpened, reading}
-use Rattle.card.proofs.ReadCall.{readAs, lengths-good, good-lengths}
+use Rattle.card.specs.Reading.{fine, loaded, slotLayer, slotPlace, badSlot, slots, firstBad, wholeOf, firstRefusal, readOpened, reading}
+use Rattle.card.proofs.ReadCall.{readAs, lengths-good, good-lengths, checked-none, checked-passes, within}
 use Rattle.card.proofs.SlotOrder.{slotNo, slot-only, slot-last}
 use Rattle.card.proofs.LayerPlanes.{few-planes, whole-at, loaded-yes, loaded-by}
 use Rattle.guarantee.specs.Guarantee.{Slices}
@@ -58,11 +58,8 @@ module _ (h : Header) (long : ℕ) (bs : List ℕ) where
     abbrev over : ℕ
     over = firstOver limit (loads plan)
 
-    asks-passes : AsksWhole plan → ltb over layersMost ≡ false
-    asks-passes w = le-ltb over layersMost (omega (arith, none-over limit (loads plan) (λ k l. omega (arith, whole-at h (length bs - long) k l, w k l))))
-
-    passes-asks : ltb over layersMost ≡ false → AsksWhole plan
-    passes-asks e k l = omega (arith, before-over limit (loads plan) k (omega (arith, ltb-false over layersMost e)), whole-at h (length bs - long) k l)
+    asks-passes : AsksWhole plan → over ≡ layersMost
+    asks-passes w = none-over limit (loads plan) (λ k l. omega (arith, whole-at h (length bs - long) k l, w k l))
 
     -- no bad plane: each stands in a slot
     abbrev bad : ℕ
@@ -108,8 +105,7 @@ unfolding reading readOpened
 passed-reads {h} {long} {bs} {plan} {qs} {vs} t =
     rw (
       t .opens,
-      lengths-good qs vs h (t .slices .coefficients) (t .slices .values),
-      asks-passes h long bs plan (t .taken .asks),
+      checked-none qs vs h (wholeOf bs h long) plan (lengths-good qs vs h (t .slices .coefficients) (t .slices .values)) (asks-passes h long bs plan (t .taken .asks)),
       fine-passes h long bs plan (t .taken .fine),
     )
 
@@ -118,19 +114,18 @@ module _ (qs vs : List ℤ) (bs : List ℕ) (plan : Plan) where
   opened-passed : (h : Header) (long : ℕ) → opening bs ≡ accepting h long → readOpened qs vs bs h long plan .refused .number ≡ 0 → Passed h long bs plan qs vs
   unfolding readOpened
   opened-passed h long opens zero =
-      by (goodLengths qs vs h)
-      (λ good. by (ltb (over h long bs plan) layersMost)
-      (λ y. absurd (let z : 9 ≡ 0 = rw (good, y) at zero in omega arith))
-      (λ within. by (ltb (bad h long bs plan) (all h long bs plan))
-      (λ y. absurd (let z : 8 ≡ 0 = rw (good, within, y) at zero in omega arith))
+      by (eqb (firstRefusal qs vs h (wholeOf bs h long) plan .number) 0)
+      (λ y. by (ltb (bad h long bs plan) (all h long bs plan))
+      (λ b. absurd (let z : 8 ≡ 0 = rw (y, b) at zero in omega arith))
       (λ none.
-      let full = good-lengths qs vs h good in
+      let ok = checked-passes qs vs h (wholeOf bs h long) plan (eqb-true _ _ y) in
+      let full = good-lengths qs vs h (ok .0) in
       record {
         opens = opens;
         slices = record { coefficients = full .0; values = full .1 };
-        taken = record { asks = passes-asks h long bs plan within; fine = passes-fine h long bs plan (right-header bs opens) none };
-      })))
-      (λ n. absurd (let z : 3 ≡ 0 = rw n at zero in omega arith))
+        taken = record { asks = within h long bs plan (ok .1); fine = passes-fine h long bs plan (right-header bs opens) none };
+      }))
+      (λ n. absurd (eqb-false _ _ n (rw n at zero)))
 
   pub reading-passed : reading qs vs bs plan .refused .number ≡ 0 → Passed (opening bs .header) (opening bs .long) bs plan qs vs
   unfolding reading

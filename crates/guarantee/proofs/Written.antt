@@ -1,53 +1,30 @@
 -- A writing that is not refused. It tests sizes, settings, lengths and samples one after the other, and each test that failed would give a number that is not 0. So what passes them all is written, and only that; and it passes them where the samples can be quantized and the slices have room.
-use mathlib.Core.Bool.{true, false, _&&_}
-use mathlib.Core.List.{List, [], _∷_}
+use mathlib.Core.Bool.{true, false, not, _&&_}
+use mathlib.Core.List.{List}
 use mathlib.Core.Path.{_≡_, refl, ap, _∙_}
-use Prim.Native.Nat.{ℕ, suc, _<_, _≤_}
+use Prim.Native.Nat.{ℕ, suc}
 use native.Mathlib.Omega.{arith}
-use borrow.Author.Tests.{ltb-false, le-ltb, eqb-true}
+use borrow.Author.Tests.{ltb-false, eqb-true}
 use lib.Dec.{ltb, leb, eqb}
-use lib.IntN.{ℤ, pos, negℤ}
+use lib.IntN.{ℤ}
 use lib.ListN.{length}
-use lib.Signed.{leZ}
-use Rattle.integers.specs.Distance.{Within}
-use Rattle.integers.proofs.Bools.{by, and-left, and-both, or-no-left, or-no-right, is-true}
-use Rattle.integers.proofs.Diff.{#, lit, ⊟}
-use Rattle.integers.proofs.Near.{within-at}
-use Rattle.integers.proofs.Order.{le-by}
+use Rattle.integers.proofs.Bools.{by, and-left, or-no-left, or-no-right}
 use Rattle.layers.specs.declared.Shape.{Shape}
 use Rattle.layers.specs.declared.Curve.{Curve}
 use Rattle.layers.specs.declared.Scan.{Scan}
 use Rattle.layers.specs.declared.Scan.the-variants.{Clear, OutAt}
-use Rattle.layers.specs.Limits.{pointsMost, levelsMost, stepMost, sampleMost}
-use Rattle.layers.specs.Lists.{at}
+use Rattle.layers.specs.Limits.{levelsMost, stepMost}
 use Rattle.layers.specs.Sheet.{points}
 use Rattle.layers.specs.Layering.{layering, coefs}
-use Rattle.layers.specs.Calls.{inRange, goodPrefix, scanned}
+use Rattle.layers.specs.Calls.{scanned}
 use Rattle.layers.specs.Loops.{Samples}
-use Rattle.layers.proofs.Accepting.{accepted-yes}
-use Rattle.layers.proofs.Answers.{clear-within}
+use Rattle.layers.proofs.Accepting.{sized-by, accepted-yes}
+use Rattle.layers.proofs.Answers.{clear-within, scans-clear}
 use Rattle.card.specs.Planes.{cardOf}
 use Rattle.card.specs.Writing.{outputLeast, badSizes, badSettings, goodLengths, afterScan, done, writing}
-use Rattle.card.proofs.BadSizes.{left-over}
+use Rattle.card.proofs.BadSizes.{bad-sizes}
 use Rattle.card.proofs.Writes.{good-settings, good-lengths, shape-accepted}
 use Rattle.guarantee.specs.WrittenBack.{Room}
-
--- ---- samples that are all in range are scanned clear
-within-in-range : (z : ℤ) → Within sampleMost z → inRange z ≡ true
-unfolding inRange
-within-in-range z w =
-    and-both (leZ (negℤ (pos sampleMost)) z) (leZ z (pos sampleMost))
-    (is-true _ (le-by (⊟ (lit sampleMost)) (# z) (omega (arith, within-at (# z) w)) .le))
-    (is-true _ (le-by (# z) (lit sampleMost) (omega (arith, within-at (# z) w)) .le))
-
-all-good : (xs : List ℤ) → ((p : ℕ) → p < length xs → Within sampleMost (at xs p)) → goodPrefix xs ≡ length xs
-unfolding goodPrefix
-all-good [] w = refl
-all-good (x ∷ xs) w = rw (within-in-range x (w 0 (omega arith))) (ap suc (all-good xs (λ p l. w (suc p) (omega arith))))
-
-scans-clear : (cols : ℕ) (xs : List ℤ) → ((p : ℕ) → p < length xs → Within sampleMost (at xs p)) → scanned cols xs ≡ Clear
-unfolding scanned
-scans-clear cols xs w = let all : length xs ≤ goodPrefix xs = omega (arith, all-good xs w) in rw (le-ltb (goodPrefix xs) (length xs) all)
 
 one-none : {n : ℕ} → suc n ≡ 0 → ⊥
 one-none e = omega arith
@@ -100,7 +77,7 @@ module _ (g : List ℤ) (sh : Shape) (curve : Curve) (e : ℕ) (qs vs : List ℤ
   samples-pass x room =
       let s = accepted-yes sh (x .shape) in
       let sizes : badSizes (sh .rows) (sh .cols) ≡ false =
-      left-over (sh .rows) (sh .cols) (λ z. omega (arith, s .tall)) (λ z. omega (arith, s .wide)) ∙ le-ltb pointsMost (points sh) (s .small) in
+      bad-sizes (sh .rows) (sh .cols) ∙ ap not (sized-by (sh .rows) (sh .cols) (record { tall = s .tall; wide = s .wide; small = s .small })) in
       record {
         sizes = sizes;
         settings = good-settings g sh curve e qs vs out sizes (s .shallow) (x .step);

@@ -1,17 +1,18 @@
 -- The rows of document 01's "Worked on the bench" that are marked P.
 use mathlib.Core.List.{List, [], _∷_, _++_}
 use mathlib.Core.Path.{_≡_}
-use Prim.Native.Nat.{ℕ, _≤_}
+use Prim.Native.Nat.{ℕ, _-_, _≤_}
 use lib.IntN.{ℤ, pos, negsuc}
 use lib.ListN.{length, replicate, take, drop}
 use Rattle.digits.specs.Digits.{digitsOf, fewest}
 use Rattle.layers.specs.declared.Shape.{Shape}
 use Rattle.layers.specs.declared.Curve.the-variants.{Linear, Cubic}
+use Rattle.layers.specs.Limits.{layersMost}
 use Rattle.layers.specs.Prediction.{cubic}
 use Rattle.layers.specs.Carry.{carried}
 use Rattle.header.specs.declared.Plan.{Plan}
 use Rattle.header.specs.Refusals.{refusal}
-use Rattle.header.specs.Header.{ascii}
+use Rattle.header.specs.Header.{cellBytes, ascii}
 use Rattle.header.specs.Opening.{opening}
 use Rattle.card.specs.Writing.{writing, outputLeast}
 use Rattle.card.specs.Reading.{showing}
@@ -38,14 +39,14 @@ abbrev pub text : List ℕ
 text = ascii "rows=1\ncols=5\nlevels=1\ncurve=linear\nstep=1\nplanes=5,1,0\ncells=6\n"
 
 abbrev pub cell : ℕ → List ℕ
-cell b = b ∷ replicate 31 0
+cell b = b ∷ replicate (cellBytes - 1) 0
 
 abbrev pub card : List ℕ
 card = text ++ (cell 4 ++ (cell 4 ++ (cell 7 ++ (cell 5 ++ (cell 1 ++ cell 1)))))
 
 -- the plan that loads a, b and c planes of the three layers
 abbrev pub planOf : ℕ → ℕ → ℕ → Plan
-planOf a b c = record { planes = a ∷ b ∷ c ∷ replicate 10 0 }
+planOf a b c = record { planes = a ∷ b ∷ c ∷ replicate (layersMost - 3) 0 }
 
 -- slices of five numbers
 pub record Five (qs vs : List ℤ) : Type 0 where

@@ -1,4 +1,5 @@
--- Demand 3, sentence by sentence, over the definitions that the contracts of write, show, read and plan_by_limit cite.
+-- Demand 3, sentence by sentence, over the definitions that the contracts of write, show, read and plan_by_limit cite. What is quoted here is demand 3's
+-- own words.
 use mathlib.Core.List.{List}
 use mathlib.Core.Path.{_≡_}
 use Prim.Native.Nat.{ℕ, _+_, _*_, _-_, _<_, _≤_}
@@ -39,8 +40,8 @@ module _ (g : List ℤ) (sh : Shape) (curve : Curve) (e : ℕ) (qs vs : List ℤ
   abbrev pub wholeCard : List ℕ
   wholeCard = take (made .long) (made .output)
 
-  abbrev pub pulled : ℕ → List ℕ
-  pulled n = take n wholeCard
+  abbrev pub truncated : ℕ → List ℕ
+  truncated n = take n wholeCard
 
   -- the header that was written, and where it ends
   abbrev pub head : Header
@@ -73,9 +74,9 @@ module _ (g : List ℤ) (sh : Shape) (curve : Curve) (e : ℕ) (qs vs : List ℤ
   pub record Demand3 : Type 0 where
     -- "whichever byte it was pulled at from the header's end on"
     pub shown : (n : ℕ) → headEnd ≤ n → n ≤ made .long
-        → (qs′ vs′ : List ℤ) → Slices sh qs′ vs′ → Shown n (showing qs′ vs′ (pulled n))
+        → (qs′ vs′ : List ℤ) → Slices sh qs′ vs′ → Shown n (showing qs′ vs′ (truncated n))
     -- "And for every limit E not below e, the planner, given the pulled card
-    pub planned : (n : ℕ) → headEnd ≤ n → n ≤ made .long → (limit : ℕ) → e ≤ limit → PlannedWithin limit (byLimit (pulled n) limit)
+    pub planned : (n : ℕ) → headEnd ≤ n → n ≤ made .long → (limit : ℕ) → e ≤ limit → PlannedWithin limit (byLimit (truncated n) limit)
     -- or the whole one"
     pub planned-whole : (limit : ℕ) → e ≤ limit → PlannedWithin limit (byLimit wholeCard limit)
 

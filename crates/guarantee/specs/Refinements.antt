@@ -1,4 +1,4 @@
--- Demand 2, its second half: "For every list of refinements of one card after a reading of no planes, refused ones among them, the values after it
+-- Demand 2, its second half, in its own words: "For every list of refinements of one card after a reading of no planes, refused ones among them, the values after it
 -- are those of one reading with the planes it has reached."
 use mathlib.Core.Bool.{cond}
 use mathlib.Core.List.{List, [], _∷_}
@@ -7,10 +7,11 @@ use Prim.Native.Nat.{ℕ}
 use lib.Dec.{eqb}
 use lib.IntN.{ℤ}
 use lib.ListN.{length}
-use Rattle.card.specs.Reading.{Reading, reading, noPlan}
+use Rattle.header.specs.Plan.{noPlan}
+use Rattle.card.specs.Reading.{Reading, reading}
 use Rattle.card.specs.Refining.{refining}
 
--- "each call takes the plan and the slices that the last accepted call left": a refused call leaves what was there
+-- "each call takes the plan and the slices that the last accepted call left" (document 01): a refused call leaves what was there
 abbrev pub keep : Reading → Reading → Reading
 keep new old = cond (eqb (new .refused .number) 0) new old
 

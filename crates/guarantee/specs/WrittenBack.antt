@@ -1,5 +1,5 @@
 -- Demand 2, its first half: "A whole card that reading accepts with all its planes, and whose values lie in the reading range, is written back
--- with the same bytes."
+-- with the same bytes." What is quoted here is demand 2's own words.
 use mathlib.Core.List.{List, _++_}
 use mathlib.Core.Path.{_≡_}
 use Prim.Native.Nat.{ℕ, _+_, _*_, _<_, _≤_}

@@ -1,1 +1,1 @@
-// No code: the demands and the bench rows of document 01 as theorems over the definitions that the calls' contracts cite.
+// No code: the demands, and document 01's bench rows, as theorems over the definitions that the calls' contracts cite.

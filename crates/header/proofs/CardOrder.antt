@@ -1,5 +1,4 @@
 -- The cells before a plane, from plane to plane: a sum over the layers, of which one step to the next layer or the next place changes one term or none.
-use mathlib.Core.Bool.{true}
 use mathlib.Core.Path.{_≡_, ap, ap₂, sym, _∙_}
 use Prim.Native.Nat.{ℕ, suc, _+_, _-_, _*_, _<_, _≤_}
 use native.Mathlib.Nat.{mul-le-mul-left, add-comm, add-zero, mul-zero, zero-mul, mul-suc, le-refl}
@@ -8,10 +7,9 @@ use native.Mathlib.Omega.{arith}
 use borrow.Author.Tests.{lt-ltb, le-ltb, eqb-true, eqb-false}
 use lib.Dec.{eqb}
 use lib.ListN.{getD}
-use Rattle.layers.specs.declared.Shape.{Shape}
 use Rattle.layers.specs.Limits.{layersMost}
 use Rattle.layers.specs.Lists.{total, tabulate}
-use Rattle.layers.specs.Sheet.{accepted, layers}
+use Rattle.layers.specs.Sheet.{layers}
 use Rattle.integers.proofs.Bools.{by}
 use Rattle.layers.proofs.Lists.{getD-tabulate}
 use Rattle.header.specs.declared.Header.{Header}
@@ -100,18 +98,15 @@ module _ (h : Header) where
       (λ j i. mul-le-mul-left (planeCells (h .shape) j) (let e : planesBefore h (suc k) p j ≤ planesBefore h (layers (h .shape)) 0 j = rw (before-passed h 0 (layers (h .shape)) j i) (omega arith) in e))))
 
 -- ---- the cells of one plane in a list, as the loops have them
-pub at-inside : (sh : Shape) → accepted sh ≡ true → (k : ℕ) → k < layers sh → cellsAt sh k ≡ planeCells sh k
-at-inside = cells-there
-
 module _ (h : Header) (r : Right h) (k p : ℕ) (hk : k < layers (h .shape)) where
   pub cells-through : cellsThrough (tabulate layersMost (cellsAt (h .shape))) (h .planes) k p ≡ cellsBefore h k p + planeCells (h .shape) k
   unfolding cellsThrough cellsBefore
   cells-through =
-      let widths = tabulate layersMost (cellsAt (h .shape)) in
-      let f : ℕ → ℕ = λ j. getD widths j 0 * planesBefore h k p j in
+      let spans = tabulate layersMost (cellsAt (h .shape)) in
+      let f : ℕ → ℕ = λ j. getD spans j 0 * planesBefore h k p j in
       let g : ℕ → ℕ = λ j. planeCells (h .shape) j * planesBefore h k p j in
       let few : layers (h .shape) ≤ layersMost = layers-few r in
-      let own : getD widths k 0 ≡ planeCells (h .shape) k = getD-tabulate layersMost (cellsAt (h .shape)) k 0 (omega arith) ∙ cells-there (h .shape) (r .shape) k hk in
+      let own : getD spans k 0 ≡ planeCells (h .shape) k = getD-tabulate layersMost (cellsAt (h .shape)) k 0 (omega arith) ∙ cells-there (h .shape) (r .shape) k hk in
       let past : total f layersMost ≡ total f (layers (h .shape)) =
       total-past f (layers (h .shape)) layersMost few
       (λ j l m. rw (getD-tabulate layersMost (cellsAt (h .shape)) j 0 m, cells-past (h .shape) (r .shape) j l) (zero-mul (planesBefore h k p j))) in

@@ -1,5 +1,5 @@
 -- The counts of a line of planes, one at a time: those read so far stand in front of what the rest of the text spells. A count that is read is at most its
--- layer's limit, so at most 23.
+-- layer's limit, so at most `placesMost`.
 use mathlib.Core.Bool.{true, false, true≢false, false≢true}
 use mathlib.Core.List.{List, [], _∷_, _++_, append-assoc}
 use mathlib.Core.Option.{Option, none, some}

@@ -1,7 +1,7 @@
--- A card that is pulled: with its whole header left the header is the same, since what is left is the header with fewer bytes behind it. With less, the lines before the cut are read as they were, and the one that is cut has no end.
+-- A card that is truncated: with its whole header left the header is the same, since what is left is the header with fewer bytes behind it. With less, the lines before the cut are read as they were, and the one that is cut has no end.
 use mathlib.Core.Bool.{true, false}
 use mathlib.Core.List.{List, _++_}
-use mathlib.Core.Path.{_≡_, refl, ap, sym, _∙_}
+use mathlib.Core.Path.{_≡_, ap, sym, _∙_}
 use Prim.Native.Nat.{ℕ, _+_, _-_, _*_, _/_, _<_, _≤_}
 use native.Mathlib.Decide.{decLt}
 use native.Mathlib.Omega.{arith}
@@ -20,13 +20,12 @@ use Rattle.header.specs.Refusals.{refusal}
 use Rattle.header.specs.Header.{ascii, cellBytes, headerText}
 use Rattle.header.specs.Opening as O
 use Rattle.header.specs.Opening.{Opening, taking, takingPlanes, curveLine, padded, openingCells, openingPlanes, openingStep, openingCurve, openingLevels, openingCols, opening, right}
-use Rattle.header.proofs.Rightness.{right-yes}
 use Rattle.header.proofs.Ends.{drop-take}
 use Rattle.header.proofs.CurveLine.{read-curve}
 use Rattle.header.proofs.Turns.{PlanesLine}
 use Rattle.header.proofs.HeaderLines.{HeaderLines, headed, Accepts, accepting, lines-of}
 use Rattle.header.proofs.Opens.{opened-right}
-use Rattle.header.proofs.Printed.{printed-opens, printed-lines}
+use Rattle.header.proofs.Printed.{printed-opens}
 
 -- ---- a text cut behind its first byte 10, and before it
 module _ (m : ℕ) (l : List ℕ) where
@@ -144,7 +143,7 @@ module _ (bs : List ℕ) (n : ℕ) where
     unfolding openingCols
     cols-cut l = line-turn 2 (ascii "cols=") 1 (pointsMost / h .shape .rows) at₂ (h .shape .cols) (s .n₂) (λ cols k. openingLevels left (h .shape .rows) cols (at₂ + k)) (s .cols-line) l levels-cut
 
-    pub lines-cut : opening left ≡ O.no (refusal 5 0 0)
+    lines-cut : opening left ≡ O.no (refusal 5 0 0)
     unfolding opening
     lines-cut =
         elim (decLt n at₂) [
@@ -152,7 +151,7 @@ module _ (bs : List ℕ) (n : ℕ) where
           | no y ↦ rw (number-take (ascii "rows=") 1 pointsMost n bs (h .shape .rows) (s .n₁) (s .rows-line) (omega arith)) (cols-cut (omega arith))
         ]
 
--- ---- a header and its cells, pulled
+-- ---- a header and its cells, truncated
 module _ (h : Header) (e : right h ≡ true) (full : length (h .planes) ≡ layersMost) (body : List ℕ) (fits : length body ≤ cellBytes * h .cells) (n : ℕ) where
   pub cut-behind : length (headerText h) ≤ n → opening (take n (headerText h ++ body)) ≡ accepting h (length (headerText h))
   cut-behind l =
@@ -160,11 +159,7 @@ module _ (h : Header) (e : right h ≡ true) (full : length (h .planes) ≡ laye
       let s : length (headerText h) + m ≡ n = omega arith in
       ap opening (rw s at (take-append-add (headerText h) body m)) ∙ printed-opens h e full (take m body) (omega (arith, length-take m body))
 
-  -- "63 bytes: refusal 5"
-  pub cut-inside : n < length (headerText h) → opening (take n (headerText h ++ body)) ≡ O.no (refusal 5 0 0)
-  cut-inside l = lines-cut (headerText h ++ body) n h (length (headerText h)) (printed-lines h (right-yes h e) full (headerText h ++ body) body refl fits) l
-
--- ---- and any bytes that open
+-- ---- THE LAW: any bytes that open, cut in the header, are refused with 5; and cut behind it they open with the same header
 module _ (bs : List ℕ) (e : Accepts (opening bs)) (n : ℕ) where
   pub opened-cut : n < opening bs .long → opening (take n bs) ≡ O.no (refusal 5 0 0)
   opened-cut l = lines-cut bs n (opening bs .header) (opening bs .long) (lines-of bs e) l

@@ -4,6 +4,7 @@ use Prim.Native.Nat.{ℕ, _+_, _-_, _*_, _^_, _<_, _≤_}
 use native.Mathlib.Nat.{le-trans, mul-le-mul, zero-mul}
 use native.Mathlib.Omega.{arith}
 use Rattle.integers.specs.Floor.{ceilDiv}
+use Rattle.digits.proofs.Losses.{loss-none}
 use Rattle.layers.specs.Limits.{layersMost, stepMost}
 use Rattle.layers.specs.Sheet.{layers}
 use Rattle.layers.specs.Prediction.{width}
@@ -13,14 +14,9 @@ use Rattle.header.specs.declared.Header.{Header}
 use Rattle.header.specs.Header.{placesMost, planesOf}
 use Rattle.header.specs.Figure.{ownLoss, figureOf}
 use Rattle.header.proofs.Rightness.{Right, counts-few, layers-few}
-use Rattle.header.proofs.Limits.{lossMost, loss-none, loss-most, standing-none, standing-limit}
+use Rattle.header.proofs.Limits.{lossMost, loss-most, standing-none, standing-limit}
 
 module _ (h : Header) where
-  -- "The figure is e plus the result"
-  pub figure-least : (plan : ℕ → ℕ) → h .step ≤ figureOf h plan
-  unfolding figureOf
-  figure-least plan = omega arith
-
   -- with every plane loaded nothing is lost
   pub figure-full : (plan : ℕ → ℕ) → ((k : ℕ) → k < layers (h .shape) → planesOf h k ≤ plan k) → figureOf h plan ≡ h .step
   unfolding figureOf

@@ -1,13 +1,12 @@
 -- The figure's limits: a layer loses no more where fewer digits are missing, and what stands after k layers rises by a fixed recursion, which stays far below 2 ^ 60.
-use mathlib.Core.Path.{_≡_, refl, ap, _∙_}
-use Prim.Native.Nat.{ℕ, zero, suc, _+_, _*_, _/_, _%_, _^_, _<_, _≤_}
-use native.Mathlib.Nat.{le-refl, le-trans, pow-le-pow-right}
-use native.Mathlib.Numerals.{add-one}
+use mathlib.Core.Path.{_≡_, refl, _∙_}
+use Prim.Native.Nat.{ℕ, zero, suc, _+_, _*_, _/_, _^_, _<_, _≤_}
+use native.Mathlib.Nat.{le-refl}
 use native.Mathlib.Omega.{arith}
-use lib.Dec.{eqb, lit<}
-use lib.Pow.{shl-exact}
+use lib.Dec.{eqb}
 use borrow.Author.Tests.{eqb-true, eqb-false}
-use Rattle.digits.specs.Digits as D
+use Rattle.digits.specs.Digits.{loss}
+use Rattle.digits.proofs.Losses.{loss-rises}
 use Rattle.layers.specs.declared.Shape.{Shape}
 use Rattle.layers.specs.declared.Curve.{Curve}
 use Rattle.layers.specs.declared.Curve.the-variants.{Cubic}
@@ -20,31 +19,13 @@ use Rattle.layers.proofs.Range.{limit}
 use Rattle.layers.proofs.Standing.{standing-empty, standing-more}
 use Rattle.header.specs.Header.{placesMost}
 
--- ---- the loss
-pub loss-rises : (c d : ℕ) → c ≤ d → D.loss c ≤ D.loss d
-unfolding D.loss
-loss-rises c d h = let p : 2 ^ (c + 1) ≤ 2 ^ (d + 1) = pow-le-pow-right {n = 2} (omega arith) (omega arith) in omega arith
-
-pub loss-none : D.loss 0 ≡ 0
-unfolding D.loss
-loss-none = refl
-
--- as the code works it out: 2 shifted by at most 23 loses nothing
-pub loss-shifted : (d : ℕ) → d ≤ placesMost → (2 * 2 ^ d) % 2 ^ 64 / 3 ≡ D.loss d
-unfolding D.loss
-loss-shifted d h =
-    let kept : (2 * 2 ^ d) % 2 ^ 64 ≡ 2 * 2 ^ d = shl-exact 2 d 64 (lit< tt) (omega arith) in
-    rw kept (omega (arith, ap (λ (k : ℕ). 2 ^ k) (add-one d)))
-
--- of 23 digits
+-- ---- the loss of all the planes of a layer
 abbrev pub lossMost : ℕ
-lossMost = 5592405
+lossMost = 2 ^ (placesMost + 1) / 3
 
-pub loss-most : (d : ℕ) → d ≤ placesMost → D.loss d ≤ lossMost
-loss-most d h = le-trans (loss-rises d placesMost h) top
-  where
-    top : D.loss placesMost ≤ lossMost
-    top = unfold D.loss in (omega arith)
+pub loss-most : (d : ℕ) → d ≤ placesMost → loss d ≤ lossMost
+unfolding loss
+loss-most d h = loss-rises d placesMost h
 
 -- ---- what stands
 module _ (sh : Shape) (curve : Curve) (own : ℕ → ℕ) where

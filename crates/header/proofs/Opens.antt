@@ -2,7 +2,7 @@
 use mathlib.Core.Bool.{true}
 use mathlib.Core.List.{List, _++_}
 use mathlib.Core.Path.{_≡_, refl, ap, _∙_}
-use Prim.Native.Nat.{ℕ, _+_, _-_, _*_, _/_, _<_, _≤_, min}
+use Prim.Native.Nat.{ℕ, _+_, _-_, _*_, _/_, _<_, _≤_}
 use native.Mathlib.Omega.{arith}
 use borrow.Author.Tests.{ltb-true, ltb-false}
 use lib.Dec.{ltb}
@@ -10,15 +10,15 @@ use lib.ListN.{length, take, drop, getD, replicate, length-append, length-drop, 
 use lib.Seq.{take-at, getD-append-add}
 use Rattle.layers.specs.declared.Shape.{Shape}
 use Rattle.layers.specs.Limits.{pointsMost, levelsMost, layersMost, stepMost}
-use Rattle.layers.specs.Sheet.{layers}
-use Rattle.layers.proofs.Accepting.{Sheet, accepted-by}
+use Rattle.layers.specs.Sheet.{layers, layerCount}
+use Rattle.layers.proofs.Accepting.{Sheet, accepted-by, count-is}
 use Rattle.layers.proofs.Lists.{getD-zeros}
 use Rattle.integers.proofs.Bools.{by}
 use Rattle.text.specs.Line.{newline, before, lineText}
 use Rattle.text.proofs.Lines.{Written, written}
 use Rattle.text.proofs.Search.{starts-split}
 use Rattle.header.specs.declared.Header.{Header}
-use Rattle.header.specs.Header.{cellBytes, ascii, listText, listed, planesOf, headerText}
+use Rattle.header.specs.Header.{cellBytes, ascii, listText, planesOf, headerText}
 use Rattle.header.specs.Opening.{padded, planesMost, right, opening}
 use Rattle.header.proofs.Rightness.{Right, right-by}
 use Rattle.header.proofs.ListText.{Counted, written-counts}
@@ -94,10 +94,9 @@ module _ (bs : List ℕ) (h : Header) (long : ℕ) (s : HeaderLines bs h long) w
           rw (padded-in (s .counts) few k inside) (rw z at (counted .most k (omega (arith, counted .long)))))
           (λ t. rw (padded-past (s .counts) k (ltb-false k (length (s .counts)) t)) (omega arith)))
 
-  counts-listed : take (listed (h .shape .levels)) (h .planes) ≡ s .counts
-  unfolding listed
+  counts-listed : take (layerCount (h .shape)) (h .planes) ≡ s .counts
   counts-listed =
-      let e : min (1 + 2 * h .shape .levels) layersMost ≡ length (s .counts) = omega (arith, counted .long, sizes .shallow) in
+      let e : layerCount (h .shape) ≡ length (s .counts) = omega (arith, counted .long, count-is (h .shape) (accepted-by (h .shape) sizes)) in
       rw (e, s .planes-are) (padded-front (s .counts) few)
 
   lines-front : Front bs (headerText h) (s .n₁ + s .n₂ + s .n₃ + s .n₄ + s .n₅ + s .n₆ + s .n₇)

@@ -3,10 +3,10 @@ use mathlib.Core.Bool.{Bool}
 use mathlib.Core.Path.{_≡_}
 use Prim.Native.Nat.{ℕ, _<_, _≤_}
 use native.Mathlib.Omega.{arith}
-use borrow.Author.Tests.{ltb-true, ltb-false, lt-ltb, le-ltb}
+use borrow.Author.Tests.{ltb-false, lt-ltb, le-ltb}
 use lib.Dec.{ltb}
 use lib.ListN.{getD}
-use Rattle.digits.proofs.Firsts.{first-le, first-is, first-least, first-at, first-none, first-same}
+use Rattle.digits.proofs.Firsts.{first-le, first-least, first-at, first-none, first-same}
 use Rattle.layers.specs.Limits.{layersMost}
 use Rattle.layers.specs.Lists.{tabulate}
 use Rattle.layers.proofs.Lists.{getD-tabulate}
@@ -24,11 +24,6 @@ module _ (limit plan : ℕ → ℕ) where
   pub before-over : (k : ℕ) → k < firstOver limit plan → plan k ≤ limit k
   unfolding firstOver
   before-over k h = ltb-false (limit k) (plan k) (first-least over layersMost 0 k (omega arith) h)
-
-  -- and it is, where there is one
-  pub at-over : firstOver limit plan < layersMost → limit (firstOver limit plan) < plan (firstOver limit plan)
-  unfolding firstOver
-  at-over h = ltb-true _ _ (first-is over layersMost 0 h)
 
   pub none-over : ((k : ℕ) → k < layersMost → plan k ≤ limit k) → firstOver limit plan ≡ layersMost
   unfolding firstOver

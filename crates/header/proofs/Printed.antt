@@ -10,14 +10,14 @@ use borrow.Author.Tests.{ltb-true}
 use lib.ListN.{length, take, drop, getD, replicate, length-append, length-take, length-drop, length-replicate, take-append-drop, getD-replicate}
 use lib.Seq.{getD-take, getD-drop, ext-getD, drop-append-seam}
 use Rattle.layers.specs.Limits.{pointsMost, levelsMost, layersMost, stepMost}
-use Rattle.layers.specs.Sheet.{layers}
-use Rattle.layers.proofs.Accepting.{Sheet, accepted-yes}
+use Rattle.layers.specs.Sheet.{layers, layerCount}
+use Rattle.layers.proofs.Accepting.{Sheet, accepted-yes, count-is}
 use Rattle.layers.proofs.Fits.{rows-small}
 use Rattle.text.specs.Line.{newline, before, lineAt, lineText}
 use Rattle.text.proofs.Lines.{read-written}
 use Rattle.text.proofs.Search.{Free, free-append, starts-append}
 use Rattle.header.specs.declared.Header.{Header}
-use Rattle.header.specs.Header.{asciiFrom, ascii, cellBytes, listText, listed, headerText}
+use Rattle.header.specs.Header.{asciiFrom, ascii, cellBytes, listText, headerText}
 use Rattle.header.specs.Opening.{padded, countsIn, right, opening}
 use Rattle.header.proofs.Rightness.{Right, right-yes, layers-few, counts-past}
 use Rattle.header.proofs.ListText.{list-free, read-counts}
@@ -28,29 +28,25 @@ use Rattle.header.proofs.HeaderLines.{HeaderLines, accepting, opening-o
 
 module _ (h : Header) (r : Right h) (full : length (h .planes) ≡ layersMost) where
   abbrev counts : List ℕ
-  counts = take (listed (h .shape .levels)) (h .planes)
-
-  listed-is : listed (h .shape .levels) ≡ layers (h .shape)
-  unfolding listed
-  listed-is = omega (arith, layers-few r)
+  counts = take (layerCount (h .shape)) (h .planes)
 
   counts-length : length counts ≡ layers (h .shape)
-  counts-length = omega (arith, listed-is, length-take (listed (h .shape .levels)) (h .planes), layers-few r)
+  counts-length = omega (arith, count-is (h .shape) (r .shape), length-take (layerCount (h .shape)) (h .planes), layers-few r)
 
   -- past the last layer the counts are 0, so padding gives them back
   counts-padded : padded counts ≡ h .planes
   counts-padded =
-      ap (λ (l : List ℕ). counts ++ l) (ext-getD 0 (replicate (layersMost - length counts) 0) (drop (listed (h .shape .levels)) (h .planes)) same-length each)
-      ∙ take-append-drop (listed (h .shape .levels)) (h .planes)
+      ap (λ (l : List ℕ). counts ++ l) (ext-getD 0 (replicate (layersMost - length counts) 0) (drop (layerCount (h .shape)) (h .planes)) same-length each)
+      ∙ take-append-drop (layerCount (h .shape)) (h .planes)
     where
-      same-length : length (replicate {A = ℕ} (layersMost - length counts) 0) ≡ length (drop (listed (h .shape .levels)) (h .planes))
-      same-length = omega (arith, length-replicate {A = ℕ} (layersMost - length counts) 0, length-drop (listed (h .shape .levels)) (h .planes), counts-length, listed-is)
+      same-length : length (replicate {A = ℕ} (layersMost - length counts) 0) ≡ length (drop (layerCount (h .shape)) (h .planes))
+      same-length = omega (arith, length-replicate {A = ℕ} (layersMost - length counts) 0, length-drop (layerCount (h .shape)) (h .planes), counts-length, count-is (h .shape) (r .shape))
 
-      each : (i : ℕ) → i < length (replicate {A = ℕ} (layersMost - length counts) 0) → getD (replicate (layersMost - length counts) 0) i 0 ≡ getD (drop (listed (h .shape .levels)) (h .planes)) i 0
+      each : (i : ℕ) → i < length (replicate {A = ℕ} (layersMost - length counts) 0) → getD (replicate (layersMost - length counts) 0) i 0 ≡ getD (drop (layerCount (h .shape)) (h .planes)) i 0
       each i l =
           let inside : i < layersMost - length counts = omega (arith, length-replicate {A = ℕ} (layersMost - length counts) 0) in
           getD-replicate (layersMost - length counts) i 0 0 inside
-          ∙ sym (getD-drop (listed (h .shape .levels)) (h .planes) i 0 ∙ counts-past r (listed (h .shape .levels) + i) (omega (arith, listed-is)) (omega (arith, listed-is, counts-length)))
+          ∙ sym (getD-drop (layerCount (h .shape)) (h .planes) i 0 ∙ counts-past r (layerCount (h .shape) + i) (omega (arith, count-is (h .shape) (r .shape))) (omega (arith, count-is (h .shape) (r .shape), counts-length)))
 
   -- ---- line 6
   abbrev words : List ℕ
@@ -65,8 +61,8 @@ module _ (h : Header) (r : Right h) (full : length (h .planes) ≡ layersMost) w
       (read-counts (h .shape) 0 counts (omega (arith, counts-length))
       (λ i l.
       let z : 0 + i ≡ i = omega arith in
-      let inside : i < listed (h .shape .levels) = omega (arith, counts-length, listed-is) in
-      rw (z, getD-take (listed (h .shape .levels)) (h .planes) i 0 inside) (r .counts i (omega (arith, listed-is, layers-few r)))))
+      let inside : i < layerCount (h .shape) = omega (arith, counts-length, count-is (h .shape) (r .shape)) in
+      rw (z, getD-take (layerCount (h .shape)) (h .planes) i 0 inside) (r .counts i (omega (arith, count-is (h .shape) (r .shape), layers-few r)))))
 
   planes-read : (l rest : List ℕ) → l ≡ ended words ++ rest → PlanesLine (h .shape) l counts
   planes-read l rest e =
@@ -82,7 +78,7 @@ module _ (h : Header) (r : Right h) (full : length (h .planes) ≡ layersMost) w
     sizes : Sheet (h .shape)
     sizes = accepted-yes (h .shape) (r .shape)
 
-    pub printed-lines : HeaderLines bs h (length (headerText h))
+    printed-lines : HeaderLines bs h (length (headerText h))
     printed-lines =
         let sh = h .shape in
         let t₁ = lineText (ascii "rows=") (sh .rows) in

@@ -2,12 +2,12 @@
 -- is such a run, with its end.
 use mathlib.Core.List.{List, [], _∷_, _++_}
 use mathlib.Core.Path.{_≡_, refl, ap, sym, _∙_}
-use Prim.Native.Nat.{ℕ, suc, _+_, _<_, _≤_}
+use Prim.Native.Nat.{ℕ, suc, _+_, _<_}
 use native.Mathlib.Nat.{add-zero}
 use native.Mathlib.Numerals.{add-one}
 use native.Mathlib.Omega.{arith}
-use lib.ListN.{length, take, drop, getD, set, length-append}
-use lib.Seq.{sets, sets-eq, take-suc, take-at, take-length, length-take-le}
+use lib.ListN.{length, take, getD, set, length-append}
+use lib.Seq.{sets, take-suc, take-length, length-take-le}
 
 -- ---- runs
 module _ {A : Type 0} where
@@ -52,9 +52,3 @@ put-none d at = record { ends = omega arith; stands = refl }
 -- at the front
 pub put-all : {d text out : List ℕ} {end : ℕ} (text′ : List ℕ) → Put d 0 text out end → text ≡ text′ → (end ≡ length text′) × (out ≡ sets d 0 text′)
 put-all {d} text′ p e = rw (← e) (omega (arith, p .ends), p .stands)
-
--- what was put there is read there
-pub put-read : (d text : List ℕ) {out : List ℕ} {end : ℕ} → end ≡ length text → out ≡ sets d 0 text → length text ≤ length d → take end out ≡ text
-put-read d text e s h =
-    let z : 0 + length text ≡ length text = omega arith in
-    rw (e, s) (ap (take (length text)) (sets-eq text d 0 (omega arith)) ∙ take-at text (drop (0 + length text) d) (length text) refl)

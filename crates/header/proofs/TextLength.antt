@@ -1,7 +1,7 @@
 -- How long a header's text is: its seven keys and ends are 48 bytes, the curve at most 6, a u64 at most 20 and a count with its comma one more.
 use mathlib.Core.List.{List}
 use mathlib.Core.Path.{_≡_}
-use Prim.Native.Nat.{ℕ, _+_, _*_, _^_, _<_, _≤_, min}
+use Prim.Native.Nat.{ℕ, _+_, _*_, _^_, _<_, _≤_}
 use native.Mathlib.Nat.{mul-le-mul-left}
 use native.Mathlib.Omega.{arith}
 use lib.ListN.{length, take, length-append, length-take}
@@ -9,15 +9,17 @@ use lib.Seq.{getD-take}
 use Rattle.layers.specs.declared.Curve.{Curve}
 use Rattle.layers.specs.declared.Curve.the-variants.{Linear, Cubic}
 use Rattle.layers.specs.Limits.{layersMost}
+use Rattle.layers.specs.Sheet.{layerCount}
 use Rattle.layers.proofs.Accepting.{Sheet, accepted-yes}
 use Rattle.layers.proofs.Fits.{rows-small, cols-small}
-use Rattle.text.specs.Decimal.{digits}
-use Rattle.text.proofs.Digits.{length-le, length-20}
+use Rattle.text.specs.Decimal.{digits, charactersMost}
+use Rattle.text.proofs.Digits.{length-le, length-most}
 use Rattle.text.proofs.Lines.{line-length}
 use Rattle.header.specs.declared.Header.{Header}
-use Rattle.header.specs.Header.{asciiFrom, cellBytes, curveText, listText, listed, planesOf, textMost, headerText}
+use Rattle.header.specs.Header.{asciiFrom, cellBytes, curveText, listText, planesOf, textMost, headerText}
 use Rattle.header.proofs.Rightness.{Right, counts-few}
 use Rattle.header.proofs.ListText.{list-length}
+use Rattle.layers.proofs.LayerCounts.{count-few}
 use Rattle.header.proofs.Total.{right-cells}
 
 curve-length : (c : Curve) → length (curveText c) ≤ 6
@@ -27,7 +29,7 @@ curve-length Cubic = omega arith
 
 module _ (h : Header) where
   abbrev counts : List ℕ
-  counts = take (listed (h .shape .levels)) (h .planes)
+  counts = take (layerCount (h .shape)) (h .planes)
 
   pub text-length :
       length (headerText h) ≡
@@ -36,8 +38,7 @@ module _ (h : Header) where
   text-length = simp (length-append, line-length) (omega arith)
 
   counts-length : length counts ≤ layersMost
-  unfolding listed
-  counts-length = omega (arith, length-take (min (1 + 2 * h .shape .levels) layersMost) (h .planes))
+  counts-length = omega (arith, count-few (h .shape), length-take (layerCount (h .shape)) (h .planes))
 
   listed-most : (d : ℕ) → ((k : ℕ) → k < layersMost → length (digits (planesOf h k)) ≤ d) → length (listText counts) ≤ (d + 1) * layersMost
   listed-most d few =
@@ -46,8 +47,8 @@ module _ (h : Header) where
         mul-le-mul-left (d + 1) counts-length,
         list-length d counts
             (λ i l.
-            let inside : i < listed (h .shape .levels) = omega (arith, length-take (listed (h .shape .levels)) (h .planes)) in
-            rw (getD-take (listed (h .shape .levels)) (h .planes) i 0 inside) (few i (omega (arith, counts-length)))),
+            let inside : i < layerCount (h .shape) = omega (arith, length-take (layerCount (h .shape)) (h .planes)) in
+            rw (getD-take (layerCount (h .shape)) (h .planes) i 0 inside) (few i (omega (arith, counts-length)))),
       )
 
   -- ---- any header of u64
@@ -58,12 +59,12 @@ module _ (h : Header) where
         arith,
         text-length,
         curve-length (h .curve),
-        listed-most 20 (λ k i. length-20 (planesOf h k) (few k i)),
-        length-20 (h .shape .rows) r,
-        length-20 (h .shape .cols) c,
-        length-20 (h .shape .levels) l,
-        length-20 (h .step) s,
-        length-20 (h .cells) n,
+        listed-most charactersMost (λ k i. length-most (planesOf h k) (few k i)),
+        length-most (h .shape .rows) r,
+        length-most (h .shape .cols) c,
+        length-most (h .shape .levels) l,
+        length-most (h .step) s,
+        length-most (h .cells) n,
       )
 
 -- ---- a right header: with its cells it fits in 32,768 bytes

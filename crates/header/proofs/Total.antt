@@ -1,8 +1,8 @@
--- At most 1,012 cells: a plane of a layer wastes less than one cell, and the layers together have at most 8,192 points, so one plane of each of at most 13 layers is at most (8192 + 13 × 255) / 256 = 44 cells; and a layer has at most 23 planes.
+-- At most 1,012 cells: a plane of a layer wastes less than one cell, and the layers together have no more points than a sheet, so one plane of each is at most `placeCellsMost` cells; and a layer has at most `placesMost` planes.
 use mathlib.Core.Bool.{true, _&&_}
 use mathlib.Core.List.{List}
 use mathlib.Core.Path.{_≡_}
-use Prim.Native.Nat.{ℕ, zero, suc, _+_, _*_, _<_, _≤_}
+use Prim.Native.Nat.{ℕ, zero, suc, _+_, _-_, _*_, _<_, _≤_}
 use native.Mathlib.Nat.{le-refl, le-trans, mul-le-mul-left}
 use native.Mathlib.Omega.{arith}
 use lib.Dec.{ltb}
@@ -16,13 +16,12 @@ use Rattle.integers.proofs.Bools.{choice, and-left}
 use Rattle.layers.proofs.Places.{size-most}
 use Rattle.layers.proofs.Size.{layers-fill}
 use Rattle.header.specs.declared.Header.{Header}
-use Rattle.header.specs.Header.{placesMost, cellPoints, cellsMost, planeCells, cellsAt, cellsOf}
-use Rattle.header.specs.CardOrder.{widthMost}
+use Rattle.header.specs.Header.{placesMost, cellPoints, planeCellsMost, placeCellsMost, cellsMost, planeCells, cellsAt, cellsOf}
 use Rattle.header.proofs.Rightness.{Right, counts-few, layers-few}
 use Rattle.header.proofs.Totals.{total-rises}
 
 -- a plane wastes less than a cell
-pub plane-waste : (sh : Shape) (k : ℕ) → cellPoints * planeCells sh k ≤ layerSize sh k + 255
+pub plane-waste : (sh : Shape) (k : ℕ) → cellPoints * planeCells sh k ≤ layerSize sh k + (cellPoints - 1)
 unfolding planeCells ceilDiv
 plane-waste sh k = omega arith
 
@@ -31,7 +30,7 @@ pub plane-room : (sh : Shape) (k : ℕ) → layerSize sh k ≤ cellPoints * plan
 unfolding planeCells ceilDiv
 plane-room sh k = omega arith
 
-wastes : (f g : ℕ → ℕ) → ((k : ℕ) → cellPoints * f k ≤ g k + 255) → (n : ℕ) → cellPoints * total f n ≤ total g n + 255 * n
+wastes : (f g : ℕ → ℕ) → ((k : ℕ) → cellPoints * f k ≤ g k + (cellPoints - 1)) → (n : ℕ) → cellPoints * total f n ≤ total g n + n * (cellPoints - 1)
 unfolding total
 wastes f g h zero = omega arith
 wastes f g h (suc n) = omega (arith, h n, wastes f g h n)
@@ -42,11 +41,11 @@ products c p b zero h = omega arith
 products c p b (suc n) h = omega (arith, mul-le-mul-left (c n) (h n (le-refl (suc n))), products c p b n (λ k l. h k (omega arith)))
 
 module _ (sh : Shape) (ok : accepted sh ≡ true) where
-  pub plane-most : (k : ℕ) → planeCells sh k ≤ widthMost
+  pub plane-most : (k : ℕ) → planeCells sh k ≤ planeCellsMost
   plane-most k = omega (arith, plane-waste sh k, size-most sh k, accepted-yes sh ok .small)
 
   -- one plane of each layer
-  pub layers-most : total (planeCells sh) (layers sh) ≤ 44
+  pub layers-most : total (planeCells sh) (layers sh) ≤ placeCellsMost
   layers-most = omega (arith, wastes (planeCells sh) (layerSize sh) (plane-waste sh) (layers sh), layers-fill sh ok, accepted-yes sh ok .small, accepted-yes sh ok .shallow)
 
   module _ (planes : List ℕ) (few : (k : ℕ) → k < layers sh → getD planes k 0 ≤ placesMost) where
@@ -62,9 +61,9 @@ pub right-cells : {h : Header} → Right h → h .cells ≤ cellsMost
 right-cells {h} r = omega (arith, r .cells, cells-most (h .shape) (r .shape) (h .planes) (λ k l. counts-few r k (omega (arith, layers-few r))))
 
 -- one plane of a layer that may not be there
-pub at-most : (sh : Shape) (k : ℕ) → cellsAt sh k ≤ widthMost
+pub at-most : (sh : Shape) (k : ℕ) → cellsAt sh k ≤ planeCellsMost
 unfolding cellsAt
 at-most sh k =
-    choice (λ (n : ℕ). n ≤ widthMost) (accepted sh && ltb k (layers sh))
+    choice (λ (n : ℕ). n ≤ planeCellsMost) (accepted sh && ltb k (layers sh))
     (λ t. plane-most sh (and-left (accepted sh) (ltb k (layers sh)) t) k)
     (λ t. omega arith)

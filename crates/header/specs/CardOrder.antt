@@ -3,13 +3,14 @@ use mathlib.Core.Bool.{Bool, cond, _&&_}
 use mathlib.Core.List.{List}
 use Prim.Native.Nat.{ℕ, _+_, _*_, _-_}
 use lib.Dec.{ltb, leb}
-use lib.ListN.{getD, replicate}
+use lib.ListN.{getD}
 use Rattle.layers.specs.Limits.{layersMost}
 use Rattle.layers.specs.Lists.{total, count, tabulate}
 use Rattle.layers.specs.Sheet.{layers}
 use Rattle.header.specs.declared.Header.{Header}
 use Rattle.header.specs.declared.Plan.{Plan}
 use Rattle.header.specs.Header.{cellBytes, planesOf, planeCells}
+use Rattle.header.specs.Plan.{noPlan}
 use Rattle.header.specs.Opening.{right}
 
 -- the planes of layer j that stand before layer k's plane at place p: those at places above p, and that at p where j comes before k
@@ -38,14 +39,10 @@ wholePlan h n = record { planes = tabulate layersMost (whole h n) }
 
 -- behind a header that opening gives; behind any other none
 unfoldable pub wholeIn : Header → ℕ → Plan
-wholeIn h n = cond (right h) (wholePlan h n) (record { planes = replicate layersMost 0 })
+wholeIn h n = cond (right h) (wholePlan h n) noPlan
 
--- ---- what the loops work with: the cells of one plane of each layer, in a list
--- the most cells that one plane has
-abbrev pub widthMost : ℕ
-widthMost = 32
-
--- the cells up to the end of layer k's plane at place p
+-- ---- what the loops work with
+-- the cells up to the end of layer k's plane at place p, where one plane of layer j spans `spans` j cells
 unfoldable pub cellsThrough : List ℕ → List ℕ → ℕ → ℕ → ℕ
-cellsThrough widths planes k p =
-    getD widths k 0 + total (λ j. getD widths j 0 * (getD planes j 0 - (p + cond (ltb j k) 0 1))) layersMost
+cellsThrough spans planes k p =
+    getD spans k 0 + total (λ j. getD spans j 0 * (getD planes j 0 - (p + cond (ltb j k) 0 1))) layersMost

@@ -2,20 +2,22 @@
 use mathlib.Core.Bool.{cond, _&&_}
 use mathlib.Core.List.{List, [], _∷_, _++_}
 use Prim.Native.Char.{code}
-use Prim.Native.Nat.{ℕ, zero, suc, _+_, _*_, min}
+use Prim.Native.Nat.{ℕ, zero, suc, _+_, _-_, _*_, _/_}
 use Prim.Native.String.{String, len, charAt}
 use lib.Dec.{ltb}
-use lib.ListN.{getD, take}
+use lib.ListN.{length, getD, take}
 use Rattle.integers.specs.Floor.{ceilDiv}
 use Rattle.layers.specs.declared.Shape.{Shape}
 use Rattle.layers.specs.declared.Curve.{Curve}
 use Rattle.layers.specs.declared.Curve.the-variants.{Linear, Cubic}
-use Rattle.layers.specs.Limits.{layersMost}
+use Rattle.layers.specs.Limits.{pointsMost, layersMost}
 use Rattle.layers.specs.Lists.{total}
-use Rattle.layers.specs.Sheet.{accepted, layers, layerSize}
+use Rattle.layers.specs.Sheet.{accepted, layers, layerCount, layerSize}
+use Rattle.text.specs.Text.{padded}
 use Rattle.text.specs.Decimal.{digits}
 use Rattle.text.specs.Line.{newline, lineText}
 use Rattle.header.specs.declared.Header.{Header}
+use Rattle.header.specs.declared.HeaderText.{HeaderText}
 
 -- ---- sizes
 -- "23 digits reach from -2,796,202 to 5,592,405, enough for every accepted sheet"
@@ -29,9 +31,17 @@ cellBytes = 32
 abbrev pub cellPoints : ℕ
 cellPoints = 8 * cellBytes
 
--- "At most 1,012 cells": at most 23 planes of each layer, and one plane of every layer together is at most 44 cells
+-- the most cells of one plane: of a layer that has every point
+abbrev pub planeCellsMost : ℕ
+planeCellsMost = pointsMost / cellPoints
+
+-- and of one plane of every layer, all at one place: each layer wastes less than a cell
+abbrev pub placeCellsMost : ℕ
+placeCellsMost = (pointsMost + layersMost * (cellPoints - 1)) / cellPoints
+
+-- "At most 1,012 cells": so many at each place
 abbrev pub cellsMost : ℕ
-cellsMost = placesMost * 44
+cellsMost = placesMost * placeCellsMost
 
 -- P_k
 abbrev pub planesOf : Header → ℕ → ℕ
@@ -72,14 +82,6 @@ listText [] = []
 listText (n ∷ []) = digits n
 listText (n ∷ m ∷ ns) = digits n ++ comma ∷ listText (m ∷ ns)
 
--- how many counts that is: one for each layer, and no more than a header has
-unfoldable pub listed : ℕ → ℕ
-listed levels = min (1 + 2 * levels) layersMost
-
--- room for any header's text
-abbrev pub textMost : ℕ
-textMost = 512
-
 -- "seven lines, key=value, each ended by byte 10, in this order: rows, cols, levels, curve .., step, planes .., cells .."
 unfoldable pub headerText : Header → List ℕ
 headerText h =
@@ -88,5 +90,12 @@ headerText h =
     ++ lineText (ascii "levels=") (h .shape .levels)
     ++ (ascii "curve=" ++ curveText (h .curve) ++ newline ∷ [])
     ++ lineText (ascii "step=") (h .step)
-    ++ (ascii "planes=" ++ listText (take (listed (h .shape .levels)) (h .planes)) ++ newline ∷ [])
+    ++ (ascii "planes=" ++ listText (take (layerCount (h .shape)) (h .planes)) ++ newline ∷ [])
     ++ lineText (ascii "cells=") (h .cells)
+
+-- room for any header's text, and the text of one in it
+abbrev pub textMost : ℕ
+textMost = 512
+
+abbrev pub textOf : Header → HeaderText
+textOf h = record { bytes = padded textMost (headerText h); length = length (headerText h) }

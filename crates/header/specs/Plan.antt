@@ -2,10 +2,14 @@
 use mathlib.Core.Bool.{cond, _&&_}
 use Prim.Native.Nat.{ℕ, _+_, _^_}
 use lib.Dec.{ltb}
-use lib.ListN.{getD, set}
+use lib.ListN.{getD, set, replicate}
 use Rattle.digits.specs.Digits.{firstFrom}
 use Rattle.layers.specs.Limits.{layersMost}
 use Rattle.header.specs.declared.Plan.{Plan}
+
+-- the plan of no planes
+abbrev pub noPlan : Plan
+noPlan = record { planes = replicate layersMost 0 }
 
 -- the planes that a plan loads of layer k
 abbrev pub loads : Plan → ℕ → ℕ

@@ -3,7 +3,6 @@ ghost use mathlib.Core.Path.{_≡_};
 ghost use mathlib.Core.Bool.{true, cond};
 ghost use Prim.Native.Nat.{_+_, _^_, _<_, _≤_};
 ghost use lib.Dec.{eqb};
-ghost use Rattle.digits.specs.Digits as D;
 ghost use Rattle.layers.specs.Carry as C;
 ghost use Rattle.layers.specs.Limits.{layersMost};
 ghost use Rattle.layers.specs.Sheet as S;
@@ -21,14 +20,6 @@ use crate::planes::is_right;
 use layers::Curve;
 use layers::MOST_LAYERS;
 use layers::Shape;
-
-// What d missing digits can lose.
-fn loss(d: u64) -> u64
-    requires { ⌜ d ≤ Hd.placesMost ⌝ }
-    ensures { λ r. ⌜ r ≡ D.loss d ⌝ }
-{
-    (2 << d) / 3
-}
 
 // What a layer makes of what stands before it, its own loss added; an empty layer changes nothing.
 fn standing_after(shape: Shape, curve: Curve, layer: usize, standing: u64, own: u64) -> u64
@@ -54,10 +45,10 @@ fn figure_of(header: Header, plan: Plan) -> u64
     let counts = header.planes;
     let loaded = plan.planes;
     let width = 2 * header.step + 1;
-    let layers = 2 * shape.levels + 1;
+    let layers = layers::layer_count(shape);
     let mut standing: u64 = 0;
     for k in 0..layers {
-        let own = loss(counts[k] - loaded[k]) * width;
+        let own = digits::loss(counts[k] - loaded[k]) * width;
         standing = standing_after(shape, curve, k, standing, own);
     }
     header.step + standing
@@ -78,7 +69,7 @@ pub fn error_bound(header: Header, plan: Plan) -> u64
     figure_of(header, plan)
 }
 
-// The figure of a plan of a card, pulled or whole.
+// The figure of a plan of a card, truncated or whole.
 pub fn figure(bytes: &[u8], plan: Plan) -> Bounded
     ensures { λ r. ⌜ F.toldBound r ≡ F.bounding (now (bytes .entry)) plan ⌝ }
 {

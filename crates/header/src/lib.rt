@@ -12,6 +12,7 @@ pub use bound::error_bound;
 pub use bound::figure;
 use layers::Curve;
 use layers::MOST_LAYERS;
+use layers::MOST_POINTS;
 use layers::Shape;
 pub use opening::open;
 pub use planes::cells_before;
@@ -22,15 +23,17 @@ pub use planes::total_cells;
 pub use planes::whole_planes;
 pub use printing::header_text;
 
-// Document 01's sizes of a card: digits of a coefficient, the bytes of a cell and the points that it holds, and the most cells, since one
-// plane of every layer is at most 44.
+// Document 01's sizes of a card: digits of a coefficient, the bytes of a cell and the points that it holds.
 pub const MOST_PLACES: u64 = 23;
 
 pub const CELL_BYTES: usize = 32;
 
 pub const CELL_POINTS: usize = 8 * CELL_BYTES;
 
-pub const MOST_CELLS: usize = MOST_PLACES as usize * 44;
+// The most cells of one plane of every layer: each layer wastes less than a cell. And the most of a card.
+pub const MOST_PLACE_CELLS: usize = (MOST_POINTS + MOST_LAYERS * (CELL_POINTS - 1)) / CELL_POINTS;
+
+pub const MOST_CELLS: usize = MOST_PLACES as usize * MOST_PLACE_CELLS;
 
 // Room for any header's text.
 pub const MOST_TEXT: usize = 512;
@@ -84,7 +87,7 @@ pub struct Bounded {
     pub figure: u64,
 }
 
-// The text of a header: the first `length` of the bytes.
+// The text of a header: the first `length` of the bytes; zeros follow.
 pub struct HeaderText {
     pub bytes: [u8; MOST_TEXT],
     pub length: usize,
@@ -173,7 +176,7 @@ impl Plan {
         }
         let mut next = self;
         let n = next.planes[layer];
-        if 18446744073709551615 <= n {
+        if u64::MAX <= n {
             return self;
         }
         next.planes[layer] = n + 1;

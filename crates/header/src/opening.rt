@@ -84,7 +84,7 @@ fn read_counts(text: &[u8], shape: Shape) -> Counts
     let mut planes = [0u64; MOST_LAYERS];
     let mut at: usize = 0;
     for k in 0..last {
-        let end = text::find(text, at, 44);
+        let end = text::find(text, at, b',');
         if text.len() <= end {
             return wrong_counts();
         }
@@ -104,12 +104,15 @@ fn read_counts(text: &[u8], shape: Shape) -> Counts
     }
 }
 
+// Where the counts stand in line 6: behind "planes=".
+const COUNTS_AT: usize = 7;
+
 // Line 6.
 fn open_planes(bytes: &[u8], shape: Shape, curve: Curve, step: u64, at: usize) -> Opened
     requires { ⌜ S.accepted shape ≡ true ⌝ }
     ensures { λ r. ⌜ O.told r ≡ O.openingPlanes (now (bytes .entry)) shape curve step at ⌝ }
 {
-    let end = text::find(bytes, at, 10);
+    let end = text::find(bytes, at, b'\n');
     if bytes.len() <= end {
         return refused(Refusal::HeaderCut);
     }
@@ -117,7 +120,7 @@ fn open_planes(bytes: &[u8], shape: Shape, curve: Curve, step: u64, at: usize) -
     if !text::starts_with(line, b"planes=") {
         return refused(Refusal::BadLine(6));
     }
-    let counts = read_counts(&line[7..], shape);
+    let counts = read_counts(&line[COUNTS_AT..], shape);
     if !counts.right {
         return refused(Refusal::BadLine(6));
     }
@@ -162,7 +165,7 @@ fn is_text(line: &[u8], key: &[u8]) -> bool
 fn curve_line(bytes: &[u8], at: usize) -> Line
     ensures { λ r. ⌜ r ≡ O.curveLine (drop at (now (bytes .entry))) ⌝ }
 {
-    let end = text::find(bytes, at, 10);
+    let end = text::find(bytes, at, b'\n');
     if bytes.len() <= end {
         return Line::Short;
     }

@@ -33,7 +33,7 @@ pub(crate) fn cells_of(shape: Shape, planes: [u64; MOST_LAYERS]) -> u64
     requires { ⌜ ((k : ℕ) → getD planes k 0 ≤ Hd.placesMost) ⌝ }
     ensures { λ r. ⌜ r ≡ Hd.cellsOf shape planes ⌝ }
 {
-    let layers = 2 * shape.levels + 1;
+    let layers = layers::layer_count(shape);
     let mut cells: u64 = 0;
     for k in 0..layers {
         cells += plane_cells(shape, k) * planes[k];
@@ -107,27 +107,27 @@ pub fn is_right(header: Header) -> bool
     header.cells == cells_of(shape, planes)
 }
 
-// The cells of one plane of each layer.
-fn widths_of(shape: Shape) -> [u64; MOST_LAYERS]
+// The cells that one plane of each layer spans.
+fn spans_of(shape: Shape) -> [u64; MOST_LAYERS]
     ensures { λ r. ⌜ r ≡ tabulate layersMost (Hd.cellsAt shape) ⌝ }
 {
-    let mut widths = [0u64; MOST_LAYERS];
+    let mut spans = [0u64; MOST_LAYERS];
     for k in 0..MOST_LAYERS {
-        widths[k] = plane_cells(shape, k);
+        spans[k] = plane_cells(shape, k);
     }
-    widths
+    spans
 }
 
 // The cells up to the end of layer k's plane at place p, in card order.
-fn cells_through(widths: [u64; MOST_LAYERS], planes: [u64; MOST_LAYERS], k: usize, p: u64) -> u64
-    requires { ⌜ (k < layersMost) × ((j : ℕ) → (getD widths j 0 ≤ K.widthMost) × (getD planes j 0 ≤ Hd.placesMost)) × (p < Hd.placesMost) ⌝ }
-    ensures { λ r. ⌜ r ≡ K.cellsThrough widths planes k p ⌝ }
+fn cells_through(spans: [u64; MOST_LAYERS], planes: [u64; MOST_LAYERS], k: usize, p: u64) -> u64
+    requires { ⌜ (k < layersMost) × ((j : ℕ) → (getD spans j 0 ≤ Hd.planeCellsMost) × (getD planes j 0 ≤ Hd.placesMost)) × (p < Hd.placesMost) ⌝ }
+    ensures { λ r. ⌜ r ≡ K.cellsThrough spans planes k p ⌝ }
 {
-    let mut cells = widths[k];
+    let mut cells = spans[k];
     for j in 0..MOST_LAYERS {
         let from = if j < k { p } else { p + 1 };
         if from < planes[j] {
-            cells += widths[j] * (planes[j] - from);
+            cells += spans[j] * (planes[j] - from);
         }
     }
     cells
@@ -147,19 +147,19 @@ pub fn cells_before(header: Header, layer: usize, p: u64) -> u64
     if counts[layer] <= p {
         return 0;
     }
-    let widths = widths_of(header.shape);
-    cells_through(widths, counts, layer, p) - widths[layer]
+    let spans = spans_of(header.shape);
+    cells_through(spans, counts, layer, p) - spans[layer]
 }
 
 // How many planes of layer k are whole in n bytes behind the header: from the top down, until one is not.
-fn whole_of(widths: [u64; MOST_LAYERS], planes: [u64; MOST_LAYERS], k: usize, n: usize) -> u64
-    requires { ⌜ (k < layersMost) × ((j : ℕ) → (getD widths j 0 ≤ K.widthMost) × (getD planes j 0 ≤ Hd.placesMost)) ⌝ }
-    ensures { λ r. ⌜ r ≡ count (λ p. leb (Hd.cellBytes * K.cellsThrough widths planes k p) n) (getD planes k 0) ⌝ }
+fn whole_of(spans: [u64; MOST_LAYERS], planes: [u64; MOST_LAYERS], k: usize, n: usize) -> u64
+    requires { ⌜ (k < layersMost) × ((j : ℕ) → (getD spans j 0 ≤ Hd.planeCellsMost) × (getD planes j 0 ≤ Hd.placesMost)) ⌝ }
+    ensures { λ r. ⌜ r ≡ count (λ p. leb (Hd.cellBytes * K.cellsThrough spans planes k p) n) (getD planes k 0) ⌝ }
 {
     let mut left = planes[k];
     let mut found: u64 = 0;
     while 0 < left {
-        if n < CELL_BYTES * cells_through(widths, planes, k, left - 1) as usize {
+        if n < CELL_BYTES * cells_through(spans, planes, k, left - 1) as usize {
             return found;
         }
         left -= 1;
@@ -176,10 +176,10 @@ pub fn whole_planes(header: Header, n: usize) -> Plan
     if !is_right(header) {
         return Plan { planes };
     }
-    let widths = widths_of(header.shape);
+    let spans = spans_of(header.shape);
     let counts = header.planes;
     for k in 0..MOST_LAYERS {
-        planes[k] = whole_of(widths, counts, k, n);
+        planes[k] = whole_of(spans, counts, k, n);
     }
     Plan { planes }
 }

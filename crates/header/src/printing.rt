@@ -12,17 +12,13 @@ use crate::HeaderText;
 use crate::MOST_TEXT;
 use layers::Curve;
 use layers::MOST_LAYERS;
-use layers::MOST_LEVELS;
 
-// Puts bytes at a place, and answers the place after them.
+// Puts bytes at a place with room for them, and answers the place after them.
 fn put_bytes(out: &mut [u8], at: usize, bytes: &[u8]) -> usize
     requires { ⌜ at + length (now bytes) ≤ length (now out) ⌝ }
     ensures { λ r. ⌜ (r ≡ at + length (now (bytes .entry))) × (now (out .exit) ≡ sets (now (out .entry)) at (now (bytes .entry))) ⌝ }
 {
-    for i in 0..bytes.len() {
-        out[at + i] = bytes[i];
-    }
-    at + bytes.len()
+    text::put(out, at, bytes)
 }
 
 fn put_number(out: &mut [u8], at: usize, n: u64) -> usize
@@ -42,7 +38,7 @@ fn put_line(out: &mut [u8], at: usize, key: &[u8], n: u64) -> usize
 {
     let from = put_bytes(out, at, key);
     let end = put_number(out, from, n);
-    out[end] = 10;
+    out[end] = b'\n';
     end + 1
 }
 
@@ -53,7 +49,7 @@ fn put_list(out: &mut [u8], at: usize, numbers: [u64; MOST_LAYERS], count: usize
 {
     let mut end = put_number(out, at, numbers[0]);
     for i in 1..count {
-        out[end] = 44;
+        out[end] = b',';
         end = put_number(out, end + 1, numbers[i]);
     }
     end
@@ -66,17 +62,6 @@ fn put_curve(out: &mut [u8], at: usize, curve: Curve) -> usize
     match curve {
         Curve::Linear => put_bytes(out, at, b"linear"),
         Curve::Cubic => put_bytes(out, at, b"cubic"),
-    }
-}
-
-// How many counts a header's line of planes has.
-fn listed(levels: usize) -> usize
-    ensures { λ r. ⌜ r ≡ Hd.listed levels ⌝ }
-{
-    if levels < MOST_LEVELS {
-        2 * levels + 1
-    } else {
-        MOST_LAYERS
     }
 }
 
@@ -96,17 +81,17 @@ fn put_header(out: &mut [u8], header: Header) -> usize
     let c = put_line(out, b, b"levels=", levels as u64);
     let d = put_bytes(out, c, b"curve=");
     let e = put_curve(out, d, curve);
-    out[e] = 10;
+    out[e] = b'\n';
     let f = put_line(out, e + 1, b"step=", header.step);
     let g = put_bytes(out, f, b"planes=");
-    let h = put_list(out, g, planes, listed(levels));
-    out[h] = 10;
+    let h = put_list(out, g, planes, layers::layer_count(shape));
+    out[h] = b'\n';
     put_line(out, h + 1, b"cells=", header.cells)
 }
 
 // The text of a header.
 pub fn header_text(header: Header) -> HeaderText
-    ensures { λ r. ⌜ (r .length ≡ length (Hd.headerText header)) × (take (r .length) (r .bytes) ≡ Hd.headerText header) ⌝ }
+    ensures { λ r. ⌜ r ≡ Hd.textOf header ⌝ }
 {
     let mut bytes = [0u8; MOST_TEXT];
     let length = put_header(&mut bytes, header);

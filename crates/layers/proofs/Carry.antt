@@ -9,7 +9,7 @@ use Rattle.integers.specs.Distance.{Within, Near}
 use Rattle.integers.specs.Floor.{floorDiv, ceilDiv}
 use Rattle.integers.proofs.Diff.{#, lit, _⊞_, _⊖_, ⊟, _⊡_}
 use Rattle.integers.proofs.Order.{eq-by}
-use Rattle.integers.proofs.Near.{near-le, near-refl, near-by, near-at, within-by}
+use Rattle.integers.proofs.Near.{near-le, near-refl, within-near, near-within}
 use Rattle.integers.proofs.Floor.{floor-at}
 use Rattle.layers.specs.declared.Shape.{Shape}
 use Rattle.layers.specs.declared.Curve.{Curve}
@@ -63,12 +63,6 @@ near-rule c m =
     }
 
 -- ---- a size: a value's distance from 0
-pub within-near : {m : ℕ} {a : ℤ} → Within m a → Near m a (pos 0)
-within-near {m} {a} h = near-by (# a) (lit 0) (omega arith)
-
-pub near-within : {m : ℕ} {a : ℤ} → Near m a (pos 0) → Within m a
-near-within {m} {a} h = within-by (# a) (omega (arith, near-at (# a) (lit 0) h))
-
 pub within-rule : (c : Curve) (m : ℕ) → Rule c (λ a _. Within m a) (λ a _. Within (carried c m) a)
 unfolding linear cubic floorDiv
 within-rule c m =

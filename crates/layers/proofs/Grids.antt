@@ -20,7 +20,7 @@ use Rattle.layers.specs.Limits.{levelsMost}
 use Rattle.layers.specs.Sheet.{member, direction, spacing, has, inLayer}
 use Rattle.layers.specs.Prediction.{predicted, predictedAt}
 use Rattle.layers.specs.Layering.{layering, pointBy}
-use Rattle.layers.specs.Loops.{gridFor, gridOf}
+use Rattle.layers.specs.Loops.{gridFor, gridOf, AtPoint}
 use Rattle.layers.proofs.Parity.{divided}
 use Rattle.layers.proofs.Fits.{spacing-some, spacing-small}
 use Rattle.integers.proofs.Bools.{and-both, and-no-left, and-no-right}
@@ -101,7 +101,7 @@ module _ (sh : Shape) (k : ℕ) (g : Grid) (is : g ≡ gridOf (sh .levels) k) (g
   inside r c e f = member-grid (direction k) (spacing (sh .levels) k) r c ∙ rw (← is) (and-both (eqb (r % g .down) (g .row)) (eqb (c % g .right) (g .col)) (eq-eqb _ _ e) (eq-eqb _ _ f))
 
 -- what a point of the layer gets
-pub point-here : (sh : Shape) (curve : Curve) (k : ℕ) (g : ℤ → ℕ → ℤ) (l old : List ℤ) (r c : ℕ) → c < sh .cols → has (sh .levels) k r c ≡ true
+pub point-here : {sh : Shape} {k r c : ℕ} → AtPoint sh k r c → (curve : Curve) (g : ℤ → ℕ → ℤ) (l old : List ℤ)
     → pointBy (layering sh curve) k g l old (r * sh .cols + c) ≡ g (predicted sh curve (direction k) (spacing (sh .levels) k) l r c) (r * sh .cols + c)
 unfolding pointBy inLayer predictedAt
-point-here sh curve k g l old r c hc m = rw (digits-div r hc, digits-mod r hc, m)
+point-here {sh} {k} {r} {c} at curve g l old = rw (digits-div r (at .col), digits-mod r (at .col), at .here)

@@ -9,12 +9,16 @@ use Rattle.layers.specs.Layering.{Layering, Proper, pointBy}
 use Rattle.integers.proofs.Bools.{cond-ap}
 use Rattle.layers.proofs.Sweep.{Local}
 
+-- a point's value after layer k, made from the values themselves: by g in the layer, and its own outside
+abbrev pub inPlace : Layering → ℕ → (ℤ → ℕ → ℤ) → List ℤ → ℕ → ℤ
+inPlace Y k g l = pointBy Y k g l l
+
 module _ {Y : Layering} (ok : Proper Y) (k : ℕ) (hk : k < Y .layers) where
   -- two lists that agree outside the layer predict the same in it
   pub predict-outside : (l l′ : List ℤ) → ((j : ℕ) → Y .mem k j ≡ false → at l j ≡ at l′ j) → (p : ℕ) → p < Y .points → Y .mem k p ≡ true → Y .predict k l p ≡ Y .predict k l′ p
   predict-outside l l′ agree = ok .local k hk l l′ (λ p hp y. agree p (ok .fresh k p hk y))
 
-  pub values-local : (g : ℤ → ℕ → ℤ) → Local (pos 0) (Y .points) (λ l. pointBy Y k g l l) (Y .mem k)
+  pub values-local : (g : ℤ → ℕ → ℤ) → Local (pos 0) (Y .points) (inPlace Y k g) (Y .mem k)
   unfolding pointBy
   values-local g =
       record {

@@ -2,6 +2,7 @@ pub mod Rises
 pub mod Lists
 pub mod Parity
 pub mod Accepting
+pub mod LayerCounts
 pub mod Fits
 pub mod Earlier
 pub mod Cover
@@ -15,12 +16,12 @@ pub mod Error
 pub mod Sweep
 pub mod InPlace
 pub mod Grids
-pub mod Filling
-pub mod Doing
+pub mod Rows
 pub mod Range
 pub mod Places
 pub mod Standing
 pub mod Size
+pub mod LinePoints
 pub mod Worked
 pub mod Neighbours
 pub mod Results

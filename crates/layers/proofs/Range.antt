@@ -13,7 +13,7 @@ use Rattle.integers.specs.Distance.{up, down, Within, Near}
 use Rattle.integers.specs.Floor.{ceilDiv}
 use Rattle.integers.proofs.Diff.{#, lit, _⊞_, _⊠_}
 use Rattle.integers.proofs.Order.{eq-by}
-use Rattle.integers.proofs.Near.{within-by}
+use Rattle.integers.proofs.Near.{within-by, within-near, near-within}
 use Rattle.layers.specs.declared.Shape.{Shape}
 use Rattle.layers.specs.declared.Curve.{Curve}
 use Rattle.layers.specs.declared.Curve.the-variants.{Linear, Cubic}
@@ -23,14 +23,14 @@ use Rattle.layers.specs.Sheet.{accepted, points, layers, has, inLayer, d
 use Rattle.layers.specs.Prediction.{width, rebuiltFrom, predicted, predictedAt}
 use Rattle.layers.specs.Layering.{layering, valuesBy, blank, reads, writes, coefs}
 use Rattle.layers.specs.Carry.{carried, carry}
-use Rattle.layers.specs.Loops.{writtenMost, predictedMost, valueMost, Below, Samples}
+use Rattle.layers.specs.Loops.{writtenMost, predictedMost, valueMost, Below, Samples, AtPoint}
 use Rattle.layers.proofs.Rises.{rises}
 use Rattle.layers.proofs.Accepting.{accepted-yes}
 use Rattle.layers.proofs.Point.{within-more, rebuilt-carry, coefficient-range}
 use Rattle.layers.proofs.Members.{layer-of}
 use Rattle.layers.proofs.Law.{length-blank, coef-at, stage-near, stage-rel}
 use Rattle.layers.proofs.SheetLaw.{Rule, sheet-carries, sheet-proper}
-use Rattle.layers.proofs.Carry.{carried-up, carried-cubic, within-rule, within-near, near-within, sheet-within}
+use Rattle.layers.proofs.Carry.{carried-up, carried-cubic, within-rule, sheet-within}
 
 pub written-carried : (c : Curve) → carried c writtenMost ≤ predictedMost
 unfolding carried ceilDiv
@@ -43,24 +43,23 @@ value-carried Linear = omega arith
 value-carried Cubic = omega arith
 
 -- ---- predictions from values of at most m
-module _ (sh : Shape) (ok : accepted sh ≡ true) (curve : Curve) (k : ℕ) (hk : k < layers sh) (vs : List ℤ) where
-  pub predicted-within : (m : ℕ) → Below m sh curve k vs → (r c : ℕ) → r < sh .rows → c < sh .cols → has (sh .levels) k r c ≡ true
-      → Within (carry sh curve k m) (predicted sh curve (direction k) (spacing (sh .levels) k) vs r c)
-  predicted-within m low r c hr hc i = rw (digits-div r hc, digits-mod r hc) at (go (r * sh .cols + c) (digits-lt hr hc) (rw (digits-div r hc, digits-mod r hc) i))
+module _ {sh : Shape} {k r c : ℕ} (here : AtPoint sh k r c) (curve : Curve) (vs : List ℤ) where
+  pub predicted-within : (m : ℕ) → Below m sh curve k vs → Within (carry sh curve k m) (predicted sh curve (direction k) (spacing (sh .levels) k) vs r c)
+  predicted-within m low =
+      let hc = here .col in
+      rw (digits-div r hc, digits-mod r hc) at (go (r * sh .cols + c) (digits-lt (here .row) hc) (rw (digits-div r hc, digits-mod r hc) (here .here)))
     where
       go : (p : ℕ) → p < points sh → has (sh .levels) k (p / sh .cols) (p % sh .cols) ≡ true
           → Within (carry sh curve k m) (predicted sh curve (direction k) (spacing (sh .levels) k) vs (p / sh .cols) (p % sh .cols))
-      go p hp i′ = unfold predictedAt inLayer in (sheet-within sh ok curve k hk m vs vs low p hp i′)
+      go p hp i = unfold predictedAt inLayer in (sheet-within sh (here .shape) curve k (omega (arith, here .layer)) m vs vs low p hp i)
 
   -- from values written
-  pub predicted-near : Below writtenMost sh curve k vs → (r c : ℕ) → r < sh .rows → c < sh .cols → has (sh .levels) k r c ≡ true
-      → Within predictedMost (predicted sh curve (direction k) (spacing (sh .levels) k) vs r c)
-  predicted-near low r c hr hc i = within-more (written-carried curve) (predicted-within writtenMost low r c hr hc i)
+  pub predicted-near : Below writtenMost sh curve k vs → Within predictedMost (predicted sh curve (direction k) (spacing (sh .levels) k) vs r c)
+  predicted-near low = within-more (written-carried curve) (predicted-within writtenMost low)
 
   -- from any values
-  pub predicted-low : Below valueMost sh curve k vs → (r c : ℕ) → r < sh .rows → c < sh .cols → has (sh .levels) k r c ≡ true
-      → Within (2 * valueMost) (predicted sh curve (direction k) (spacing (sh .levels) k) vs r c)
-  predicted-low low r c hr hc i = within-more (value-carried curve) (predicted-within valueMost low r c hr hc i)
+  pub predicted-low : Below valueMost sh curve k vs → Within (2 * valueMost) (predicted sh curve (direction k) (spacing (sh .levels) k) vs r c)
+  predicted-low low = within-more (value-carried curve) (predicted-within valueMost low)
 
 -- ---- samples that are accepted
 module _ {sh : Shape} {e : ℕ} {xs : List ℤ} (ok : Samples sh e xs) (curve : Curve) where

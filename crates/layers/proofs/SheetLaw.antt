@@ -25,7 +25,7 @@ use Rattle.layers.specs.Prediction.{linear, cubic, on, usesFour, line, p
 use Rattle.layers.specs.Layering.{Proper, Carries, layering}
 use Rattle.layers.specs.Layering as Y
 use Rattle.layers.proofs.Accepting.{accepted-yes}
-use Rattle.integers.proofs.Bools.{and-left, and-right, by}
+use Rattle.integers.proofs.Bools.{and-left, and-right, by, cond-rel}
 use Rattle.layers.proofs.Parity.{odd-after, odd-after-3, odd-before, odd-before-3}
 use Rattle.layers.proofs.Earlier.{Looks}
 use Rattle.layers.proofs.Cover.{known, all-known, fresh, looks-known}
@@ -42,10 +42,6 @@ pub uses-four : (curve : Curve) (n t s : ℕ) → usesFour curve n t s ≡ true 
 uses-four Linear n t s e = absurd (false≢true e)
 uses-four Cubic n t s e =
     (refl, leb-true (3 * s) t (and-left (leb (3 * s) t) (ltb (t + 3 * s) n) e), ltb-true (t + 3 * s) n (and-right (leb (3 * s) t) (ltb (t + 3 * s) n) e))
-
-cond-rel : (R : ℤ → ℤ → Type 0) (t : Bool) {x x′ y y′ : ℤ} → (t ≡ true → R x x′) → (t ≡ false → R y y′) → R (cond t x y) (cond t x′ y′)
-cond-rel R true p q = p refl
-cond-rel R false p q = q refl
 
 -- a point of a layer stands at an odd multiple of s on its line
 pub across-odd : (s r c : ℕ) → member Across s r c ≡ true → c % (2 * s) ≡ s

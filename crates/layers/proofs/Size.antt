@@ -3,7 +3,7 @@
 use mathlib.Core.Path.{_≡_, refl, sym, ap, ap₂, _∙_}
 use mathlib.Core.Bool.{Bool, true, false, cond, _&&_}
 use Prim.Native.Nat.{ℕ, zero, suc, _+_, _-_, _*_, _/_, _%_, _<_, _≤_}
-use native.Mathlib.Nat.{le-refl, lt-of-mul-lt-mul-right, div-add-mod', mod-lt, add-comm}
+use native.Mathlib.Nat.{le-refl, lt-of-mul-lt-mul-right, mul-le-mul-right, div-add-mod', mod-lt, add-comm}
 use native.Mathlib.Omega.{arith}
 use lib.Arith.{digits-div, digits-mod}
 use lib.Dec.{ltb, eqb}
@@ -70,6 +70,13 @@ steps-ends b d n h =
 
 pub count-steps : (b d n : ℕ) → b < d → count (λ x. eqb (x % d) b) n ≡ steps b d n
 count-steps b d n h = ends-one b d n _ _ (count-ends b d n h) (steps-ends b d n h)
+
+-- before step c there are c steps, and every step counted lies before the end
+pub count-at : (b d c : ℕ) → b < d → count (λ x. eqb (x % d) b) (c * d + b) ≡ c
+count-at b d c h = ends-one b d (c * d + b) _ c (count-ends b d (c * d + b) h) (record { far = omega arith; near = omega arith })
+
+pub step-in : (b d n c : ℕ) → b < d → c < steps b d n → c * d + b < n
+step-in b d n c h l = omega (arith, steps-ends b d n h .near, mul-le-mul-right d l)
 
 -- ---- row by row
 module _ (t u : ℕ → Bool) (w : ℕ) where

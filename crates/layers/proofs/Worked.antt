@@ -1,14 +1,14 @@
--- The bench sheet of document 01, by computation: 1 by 5, one level, linear, step 1.
+-- The bench sheet of document 01 (1 by 5, one level, linear, step 1) and the roundings beside it, by computation.
 use mathlib.Core.Path.{_≡_, refl}
 use mathlib.Core.List.{List, [], _∷_}
 use lib.IntN.{ℤ, pos, negsuc}
 use Rattle.integers.specs.Floor.{floorDiv, ceilDiv}
 use Rattle.layers.specs.declared.Shape.{Shape}
 use Rattle.layers.specs.declared.Curve.the-variants.{Linear, Cubic}
-use Rattle.layers.specs.Lists.{tabulate, count}
-use Rattle.layers.specs.Sheet.{spacing, inLayer, layerSize}
+use Rattle.layers.specs.Lists.{tabulate}
+use Rattle.layers.specs.Sheet.{spacing, inLayer}
 use Rattle.layers.specs.Prediction.{cubic, linear, line, predictedAt, width, coefficientOf, rebuiltFrom}
-use Rattle.layers.specs.Layering.{layering, pointBy, layerBy, valuesBy, alongside, rebuilt, written, coefs}
+use Rattle.layers.specs.Layering.{layering, pointBy, layerBy, valuesBy, alongside, written, coefs}
 use Rattle.layers.specs.Carry.{carried}
 
 abbrev pub benchShape : Shape
@@ -31,15 +31,6 @@ bench-coefs = refl
 pub bench-written : written (layering benchShape Linear) 1 benchSamples ≡ benchValues
 unfolding written valuesBy layerBy tabulate pointBy inLayer spacing predictedAt line linear coefficientOf rebuiltFrom floorDiv width
 bench-written = refl
-
-pub bench-rebuilt : rebuilt (layering benchShape Linear) 1 benchCoefs ≡ benchValues
-unfolding rebuilt valuesBy layerBy tabulate pointBy inLayer spacing predictedAt line linear rebuiltFrom floorDiv width
-bench-rebuilt = refl
-
--- three anchors, two points across, none down
-pub bench-sizes : tabulate 3 (layerSize benchShape) ≡ 3 ∷ 2 ∷ 0 ∷ []
-unfolding tabulate layerSize count inLayer spacing
-bench-sizes = refl
 
 -- "Cubic of 0, -1, 0, 0 is -1": -9 / 16, rounded down
 pub cubic-down : cubic (pos 0) (negsuc 0) (pos 0) (pos 0) ≡ negsuc 0

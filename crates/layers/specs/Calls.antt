@@ -8,7 +8,7 @@ use lib.ListN.{length}
 use lib.Signed.{leZ}
 use Rattle.layers.specs.declared.Shape.{Shape}
 use Rattle.layers.specs.declared.Curve.{Curve}
-use Rattle.layers.specs.declared.Grid.{Grid}
+use Rattle.layers.specs.declared.Lines.{Lines}
 use Rattle.layers.specs.declared.Scan.{Scan}
 use Rattle.layers.specs.declared.Scan.the-variants.{Clear, OutAt}
 use Rattle.layers.specs.declared.Quantized.{Quantized}
@@ -16,7 +16,7 @@ use Rattle.layers.specs.declared.Quantized.the-variants.{Done, Refused, 
 use Rattle.layers.specs.Limits.{stepMost, sampleMost}
 use Rattle.layers.specs.Sheet.{accepted, points, layers, layerSize}
 use Rattle.layers.specs.Layering.{layering, rebuilt, written, coefs}
-use Rattle.layers.specs.Loops.{gridOf}
+use Rattle.layers.specs.Loops.{linesOf}
 
 -- a shape and a step that document 01 accepts
 unfoldable pub settled : Shape → ℕ → Bool
@@ -70,7 +70,7 @@ quantizing sh curve e xs qs vs =
 unfoldable pub sizing : Shape → ℕ → ℕ
 sizing sh k = cond (accepted sh && ltb k (layers sh)) (layerSize sh k) 0
 
--- ---- a layer's rows and columns: row, row + down, .. and col, col + right, ..; every point where the layer is not there
-unfoldable pub gridding : Shape → ℕ → Grid
-gridding sh k =
-    cond (accepted sh && ltb k (layers sh)) (gridOf (sh .levels) k) (record { row = 0; down = 1; col = 0; right = 1 })
+-- ---- a layer as lines; one that is not there has none
+unfoldable pub layerLines : Shape → ℕ → Lines
+layerLines sh k =
+    cond (accepted sh && ltb k (layers sh)) (linesOf sh k) (record { first = 0; lines = 0; apart = 0; points = 0; stride = 0 })

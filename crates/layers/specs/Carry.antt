@@ -35,7 +35,7 @@ highCarried Cubic l h = negℤ (floorDiv (pos 2 *ℤ l -ℤ pos 18 *ℤ h) 16)
 
 -- ---- what stands after the first k layers, where layer k adds own k of its own. "Start with loss × w of layer 0. Each later non-empty layer
 -- first carries what stands .., then adds its own loss × w. Empty layers change nothing." Nothing stands before layer 0, and a layer
--- carries 0 to 0, so it goes by the same rule.
+-- carries 0 to 0, so it goes by the same rule (`standing-first`).
 unfoldable pub standing : Shape → Curve → (ℕ → ℕ) → ℕ → ℕ
 standing sh curve own zero = 0
 standing sh curve own (suc k) =

@@ -3,20 +3,21 @@ use mathlib.Core.Bool.{true, cond}
 use mathlib.Core.List.{List}
 use mathlib.Core.Path.{_≡_}
 use Prim.Native.Nat.{ℕ, _+_, _-_, _*_, _/_, _%_, _^_, _<_, _≤_}
-use lib.Dec.{ltb}
+use lib.Dec.{ltb, eqb}
 use lib.IntN.{ℤ}
 use lib.ListN.{length}
 use Rattle.integers.specs.Distance.{Within}
 use Rattle.layers.specs.declared.Shape.{Shape}
 use Rattle.layers.specs.declared.Curve.{Curve}
 use Rattle.layers.specs.declared.Grid.{Grid}
+use Rattle.layers.specs.declared.Lines.{Lines}
 use Rattle.layers.specs.declared.Direction.{Direction}
 use Rattle.layers.specs.declared.Direction.the-variants.{Anchor, Across, Down}
 use Rattle.layers.specs.Limits.{pointsMost, levelsMost, stepMost, sampleMost}
-use Rattle.layers.specs.Lists.{at}
+use Rattle.layers.specs.Lists.{at, tabulate}
 use Rattle.layers.specs.Sheet.{accepted, points, direction, spacing, has}
 use Rattle.layers.specs.Prediction.{on}
-use Rattle.layers.specs.Layering.{layering, known}
+use Rattle.layers.specs.Layering.{layering, known, pointBy}
 
 -- ---- a layer as a grid
 abbrev pub gridFor : Direction → ℕ → Grid
@@ -27,9 +28,28 @@ gridFor Down s = record { row = s; down = 2 * s; col = 0; right = s }
 abbrev pub gridOf : ℕ → ℕ → Grid
 gridOf l k = gridFor (direction k) (spacing l k)
 
--- how many of first, first + step, .. lie below end
+-- row r of layer k, all of its points at once: every point of another row keeps its own number
+unfoldable pub rowBy : Shape → Curve → ℕ → ℕ → (ℤ → ℕ → ℤ) → List ℤ → List ℤ → List ℤ
+rowBy sh curve k r g vs old =
+    tabulate (length old) (λ p. cond (eqb (p / sh .cols) r) (pointBy (layering sh curve) k g vs old p) (at old p))
+
+-- how many of first, first + stride, .. lie below end
 unfoldable pub steps : ℕ → ℕ → ℕ → ℕ
-steps first step end = cond (ltb first end) ((end - first - 1) / step + 1) 0
+steps first stride end = cond (ltb first end) ((end - first - 1) / stride + 1) 0
+
+-- and as lines: every row of the grid is one
+abbrev pub linesOn : Shape → Grid → Lines
+linesOn sh g =
+    record {
+      first = g .row * sh .cols + g .col;
+      lines = steps (g .row) (g .down) (sh .rows);
+      apart = g .down * sh .cols;
+      points = steps (g .col) (g .right) (sh .cols);
+      stride = g .right;
+    }
+
+abbrev pub linesOf : Shape → ℕ → Lines
+linesOf sh k = linesOn sh (gridOf (sh .levels) k)
 
 -- ---- bounds
 -- a value written is within the step of its sample, and a cubic prediction from such values within little more than five quarters of that
@@ -53,6 +73,14 @@ pub record Samples (sh : Shape) (e : ℕ) (xs : List ℤ) : Type 0 where
   pub step : e ≤ stepMost
   pub long : length xs ≡ points sh
   pub small : (p : ℕ) → p < points sh → Within sampleMost (at xs p)
+
+-- row r of layer k's grid g
+pub record AtRow (sh : Shape) (k : ℕ) (g : Grid) (r : ℕ) : Type 0 where
+  pub shape : accepted sh ≡ true
+  pub layer : k ≤ 2 * sh .levels
+  pub grid : g ≡ gridOf (sh .levels) k
+  pub row : r < sh .rows
+  pub here : r % g .down ≡ g .row
 
 -- a point of layer k
 pub record AtPoint (sh : Shape) (k r c : ℕ) : Type 0 where

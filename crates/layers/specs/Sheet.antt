@@ -1,16 +1,20 @@
 -- The sheet and its layers (document 01). A point p of a sheet of C columns stands at row p / C, column p % C: row order.
 use mathlib.Core.Bool.{Bool, cond, _&&_}
-use Prim.Native.Nat.{ℕ, _+_, _-_, _*_, _/_, _%_, _^_}
+use Prim.Native.Nat.{ℕ, _+_, _-_, _*_, _/_, _%_, _^_, min}
 use lib.Dec.{leb, eqb}
 use Rattle.layers.specs.declared.Shape.{Shape}
 use Rattle.layers.specs.declared.Direction.{Direction}
 use Rattle.layers.specs.declared.Direction.the-variants.{Anchor, Across, Down}
-use Rattle.layers.specs.Limits.{pointsMost, levelsMost}
+use Rattle.layers.specs.Limits.{pointsMost, levelsMost, layersMost}
 use Rattle.layers.specs.Lists.{count, nth}
 
--- "R rows and C columns, both at least 1, R × C at most 8,192. .. Levels L: 0 to 6."
+-- "R rows and C columns, both at least 1, R × C at most 8,192."
+unfoldable pub sized : ℕ → ℕ → Bool
+sized rows cols = (leb 1 rows && leb 1 cols) && leb (rows * cols) pointsMost
+
+-- "Levels L: 0 to 6."
 unfoldable pub accepted : Shape → Bool
-accepted sh = (leb 1 (sh .rows) && leb 1 (sh .cols)) && (leb (sh .rows * sh .cols) pointsMost && leb (sh .levels) levelsMost)
+accepted sh = sized (sh .rows) (sh .cols) && leb (sh .levels) levelsMost
 
 abbrev pub points : Shape → ℕ
 points sh = sh .rows * sh .cols
@@ -18,6 +22,10 @@ points sh = sh .rows * sh .cols
 -- "So there are 1 + 2L layers, numbered from 0"
 abbrev pub layers : Shape → ℕ
 layers sh = 1 + 2 * sh .levels
+
+-- the same of any numbers at all: no more layers than a sheet can have
+unfoldable pub layerCount : Shape → ℕ
+layerCount sh = min (layers sh) layersMost
 
 -- s of layer k with L levels: 2^L for the anchors, and 2^(L-1) down to 1 for each two layers after them
 unfoldable pub spacing : ℕ → ℕ → ℕ

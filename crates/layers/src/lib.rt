@@ -8,8 +8,10 @@ mod sheet;
 pub use quantizing::quantize;
 pub use rebuilding::rebuild;
 pub use sheet::accepted;
-pub use sheet::layer_grid;
+pub use sheet::layer_count;
+pub use sheet::layer_lines;
 pub use sheet::layer_size;
+pub use sheet::sized;
 
 // Document 01's sizes of a sheet, and the layers that so many levels make.
 pub const MOST_POINTS: usize = 8192;
@@ -44,6 +46,15 @@ pub struct Grid {
     pub down: usize,
     pub col: usize,
     pub right: usize,
+}
+
+// A layer as lines: its first point, how many lines and how far apart, and on each how many points and how far apart.
+pub struct Lines {
+    pub first: usize,
+    pub lines: usize,
+    pub apart: usize,
+    pub points: usize,
+    pub stride: usize,
 }
 
 // Whether every sample is in range, or where the first one stands that is not.

@@ -10,12 +10,14 @@ ghost use Rattle.layers.specs.Layering as Y;
 ghost use Rattle.layers.specs.Calls as C;
 ghost use Rattle.layers.specs.Loops as L;
 use crate::Curve;
+use crate::Grid;
 use crate::Quantized;
 use crate::Scan;
 use crate::Shape;
 use crate::prediction::predict;
 use crate::prediction::value;
 use crate::sheet::grid_of;
+use crate::sheet::layer_count;
 use crate::sheet::settled;
 
 const MOST_SAMPLE: i32 = 1048575;
@@ -54,6 +56,35 @@ fn coefficient(sample: i32, y: i64, step: u64) -> i32
     integers::floor_div(sample as i64 - y + step as i64, 2 * step + 1) as i32
 }
 
+// One row of a layer's coefficients and values, in place; g is the layer's grid.
+fn quantize_row(
+    samples: &[i32],
+    shape: Shape,
+    curve: Curve,
+    step: u64,
+    layer: usize,
+    g: Grid,
+    row: usize,
+    coefficients: &mut [i32],
+    values: &mut [i64],
+)
+    requires { ⌜ L.Samples shape step (now samples) × L.AtRow shape layer g row ⌝ }
+    requires { ⌜ (length (now coefficients) ≡ S.points shape) × (length (now values) ≡ S.points shape) × L.Below L.writtenMost shape curve layer (now values) ⌝ }
+    ensures { λ _. ⌜ (now (coefficients .exit) ≡ L.rowBy shape curve layer row (Y.makes step (now (samples .entry))) (now (values .entry)) (now (coefficients .entry))) × (now (values .exit) ≡ L.rowBy shape curve layer row (Y.writes step (now (samples .entry))) (now (values .entry)) (now (values .entry))) ⌝ }
+{
+    let cols = shape.cols;
+    let mut col = g.col;
+    while col < cols {
+        let p = row * cols + col;
+        let y = predict(values, shape, curve, layer, row, col);
+        let q = coefficient(samples[p], y, step);
+        let v = value(y, q, step);
+        coefficients[p] = q;
+        values[p] = v;
+        col += g.right;
+    }
+}
+
 // One layer of coefficients and values, in place.
 fn quantize_layer(
     samples: &[i32],
@@ -69,20 +100,20 @@ fn quantize_layer(
     ensures { λ _. ⌜ (now (coefficients .exit) ≡ Y.layerBy (Y.layering shape curve) layer (Y.makes step (now (samples .entry))) (now (values .entry)) (now (coefficients .entry))) × (now (values .exit) ≡ Y.layerBy (Y.layering shape curve) layer (Y.writes step (now (samples .entry))) (now (values .entry)) (now (values .entry))) ⌝ }
 {
     let rows = shape.rows;
-    let cols = shape.cols;
     let g = grid_of(shape.levels, layer);
     let mut row = g.row;
     while row < rows {
-        let mut col = g.col;
-        while col < cols {
-            let p = row * cols + col;
-            let y = predict(values, shape, curve, layer, row, col);
-            let q = coefficient(samples[p], y, step);
-            let v = value(y, q, step);
-            coefficients[p] = q;
-            values[p] = v;
-            col += g.right;
-        }
+        quantize_row(
+            samples,
+            shape,
+            curve,
+            step,
+            layer,
+            g,
+            row,
+            coefficients,
+            values,
+        );
         row += g.down;
     }
 }
@@ -99,7 +130,7 @@ fn quantize_layers(
     requires { ⌜ (length (now coefficients) ≡ S.points shape) × (length (now values) ≡ S.points shape) ⌝ }
     ensures { λ _. ⌜ (now (coefficients .exit) ≡ Y.coefs (Y.layering shape curve) step (now (samples .entry))) × (now (values .exit) ≡ Y.written (Y.layering shape curve) step (now (samples .entry))) ⌝ }
 {
-    let layers = 1 + 2 * shape.levels;
+    let layers = layer_count(shape);
     for layer in 0..layers {
         quantize_layer(samples, shape, curve, step, layer, coefficients, values);
     }

@@ -11,11 +11,39 @@ ghost use Rattle.layers.specs.Layering as Y;
 ghost use Rattle.layers.specs.Calls as C;
 ghost use Rattle.layers.specs.Loops as L;
 use crate::Curve;
+use crate::Grid;
 use crate::Shape;
 use crate::prediction::predict;
 use crate::prediction::value;
 use crate::sheet::grid_of;
+use crate::sheet::layer_count;
 use crate::sheet::settled;
+
+// One row of a layer's values, in place; g is the layer's grid.
+fn rebuild_row(
+    coefficients: &[i32],
+    shape: Shape,
+    curve: Curve,
+    step: u64,
+    layer: usize,
+    g: Grid,
+    row: usize,
+    values: &mut [i64],
+)
+    requires { ⌜ L.AtRow shape layer g row × (step ≤ stepMost) ⌝ }
+    requires { ⌜ (length (now coefficients) ≡ S.points shape) × (length (now values) ≡ S.points shape) × L.Below L.valueMost shape curve layer (now values) ⌝ }
+    ensures { λ _. ⌜ now (values .exit) ≡ L.rowBy shape curve layer row (Y.reads step (now (coefficients .entry))) (now (values .entry)) (now (values .entry)) ⌝ }
+{
+    let cols = shape.cols;
+    let mut col = g.col;
+    while col < cols {
+        let p = row * cols + col;
+        let y = predict(values, shape, curve, layer, row, col);
+        let v = value(y, coefficients[p], step);
+        values[p] = v;
+        col += g.right;
+    }
+}
 
 // One layer of values, in place.
 fn rebuild_layer(
@@ -31,18 +59,10 @@ fn rebuild_layer(
     ensures { λ _. ⌜ now (values .exit) ≡ Y.layerBy (Y.layering shape curve) layer (Y.reads step (now (coefficients .entry))) (now (values .entry)) (now (values .entry)) ⌝ }
 {
     let rows = shape.rows;
-    let cols = shape.cols;
     let g = grid_of(shape.levels, layer);
     let mut row = g.row;
     while row < rows {
-        let mut col = g.col;
-        while col < cols {
-            let p = row * cols + col;
-            let y = predict(values, shape, curve, layer, row, col);
-            let v = value(y, coefficients[p], step);
-            values[p] = v;
-            col += g.right;
-        }
+        rebuild_row(coefficients, shape, curve, step, layer, g, row, values);
         row += g.down;
     }
 }
@@ -63,7 +83,7 @@ fn rebuild_layers(coefficients: &[i32], shape: Shape, curve: Curve, step: u64, v
     ensures { λ _. ⌜ now (values .exit) ≡ Y.rebuilt (Y.layering shape curve) step (now (coefficients .entry)) ⌝ }
 {
     are_i32(coefficients);
-    let layers = 2 * shape.levels + 1;
+    let layers = layer_count(shape);
     for layer in 0..layers {
         rebuild_layer(coefficients, shape, curve, step, layer, values);
     }

@@ -7,27 +7,45 @@ ghost use Rattle.layers.specs.Calls as C;
 ghost use Rattle.layers.specs.Loops as L;
 use crate::Direction;
 use crate::Grid;
+use crate::Lines;
+use crate::MOST_LAYERS;
 use crate::MOST_LEVELS;
 use crate::MOST_POINTS;
 use crate::MOST_STEP;
 use crate::Shape;
 
-// Is this a shape that a sheet can have? Sizes are bounded before they are multiplied.
-pub fn accepted(shape: Shape) -> bool
-    ensures { λ r. ⌜ r ≡ S.accepted shape ⌝ }
+// Can a sheet have so many rows and columns? They are bounded before they are multiplied.
+pub fn sized(rows: usize, cols: usize) -> bool
+    ensures { λ r. ⌜ r ≡ S.sized rows cols ⌝ }
 {
-    let rows = shape.rows;
-    let cols = shape.cols;
     if rows < 1 || MOST_POINTS < rows {
         return false;
     }
     if cols < 1 || MOST_POINTS < cols {
         return false;
     }
-    if MOST_POINTS < rows * cols {
-        return false;
+    rows * cols <= MOST_POINTS
+}
+
+// Is this a shape that a sheet can have?
+pub fn accepted(shape: Shape) -> bool
+    ensures { λ r. ⌜ r ≡ S.accepted shape ⌝ }
+{
+    if sized(shape.rows, shape.cols) {
+        return shape.levels <= MOST_LEVELS;
     }
-    shape.levels <= MOST_LEVELS
+    false
+}
+
+// How many layers a shape has; no more than a sheet can have, whatever the levels.
+pub fn layer_count(shape: Shape) -> usize
+    ensures { λ r. ⌜ r ≡ S.layerCount shape ⌝ }
+{
+    let levels = shape.levels;
+    if levels < MOST_LEVELS {
+        return 1 + 2 * levels;
+    }
+    MOST_LAYERS
 }
 
 pub(crate) fn settled(shape: Shape, step: u64) -> bool
@@ -93,50 +111,51 @@ pub(crate) fn grid_of(levels: usize, layer: usize) -> Grid
     grid_for(dir, s)
 }
 
-// A layer's rows and columns; every point where there is no such layer.
-pub fn layer_grid(shape: Shape, layer: usize) -> Grid
-    ensures { λ r. ⌜ r ≡ C.gridding shape layer ⌝ }
-{
-    let all = Grid {
-        row: 0,
-        down: 1,
-        col: 0,
-        right: 1,
-    };
-    if !accepted(shape) {
-        return all;
-    }
-    let levels = shape.levels;
-    if 2 * levels < layer {
-        return all;
-    }
-    grid_of(levels, layer)
-}
-
-// How many of first, first + step, .. lie below end.
-fn steps(first: usize, step: usize, end: usize) -> usize
-    requires { ⌜ (0 < step) × (step ≤ 2 * 2 ^ levelsMost) × (first ≤ 2 ^ levelsMost) × (end ≤ pointsMost) ⌝ }
-    ensures { λ r. ⌜ r ≡ L.steps first step end ⌝ }
+// How many of first, first + stride, .. lie below end.
+fn steps(first: usize, stride: usize, end: usize) -> usize
+    requires { ⌜ (0 < stride) × (stride ≤ 2 * 2 ^ levelsMost) × (first ≤ 2 ^ levelsMost) × (end ≤ pointsMost) ⌝ }
+    ensures { λ r. ⌜ r ≡ L.steps first stride end ⌝ }
 {
     if first < end {
-        return (end - first - 1) / step + 1;
+        return (end - first - 1) / stride + 1;
     }
     0
+}
+
+// A layer as lines; no lines where there is no such layer.
+pub fn layer_lines(shape: Shape, layer: usize) -> Lines
+    ensures { λ r. ⌜ r ≡ C.layerLines shape layer ⌝ }
+{
+    let none = Lines {
+        first: 0,
+        lines: 0,
+        apart: 0,
+        points: 0,
+        stride: 0,
+    };
+    if !accepted(shape) {
+        return none;
+    }
+    let rows = shape.rows;
+    let cols = shape.cols;
+    let levels = shape.levels;
+    if 2 * levels < layer {
+        return none;
+    }
+    let g = grid_of(levels, layer);
+    Lines {
+        first: g.row * cols + g.col,
+        lines: steps(g.row, g.down, rows),
+        apart: g.down * cols,
+        points: steps(g.col, g.right, cols),
+        stride: g.right,
+    }
 }
 
 // How many points a layer has; none where there is no such layer.
 pub fn layer_size(shape: Shape, layer: usize) -> usize
     ensures { λ r. ⌜ r ≡ C.sizing shape layer ⌝ }
 {
-    if !accepted(shape) {
-        return 0;
-    }
-    let rows = shape.rows;
-    let cols = shape.cols;
-    let levels = shape.levels;
-    if 2 * levels < layer {
-        return 0;
-    }
-    let g = grid_of(levels, layer);
-    steps(g.row, g.down, rows) * steps(g.col, g.right, cols)
+    let l = layer_lines(shape, layer);
+    l.lines * l.points
 }

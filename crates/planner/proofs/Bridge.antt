@@ -6,6 +6,7 @@ use native.Mathlib.Nat.{le-refl}
 use native.Mathlib.Decide.{decLt, ℕ-discrete}
 use native.Mathlib.Omega.{arith}
 use borrow.Author.Tests.{ne-eqb}
+use Rattle.digits.proofs.Losses.{loss-none}
 use Rattle.layers.specs.Calls.{sizing}
 use Rattle.layers.specs.Carry as C
 use Rattle.layers.specs.Limits.{layersMost}
@@ -17,13 +18,12 @@ use Rattle.header.specs.Header.{planesOf, cellsOf}
 use Rattle.header.specs.Figure.{ownLoss, figureOf}
 use Rattle.header.proofs.Cells.{size-there, size-past, cells-there, cells-past}
 use Rattle.header.proofs.Figures.{standing-most}
-use Rattle.header.proofs.Limits.{loss-none}
 use Rattle.header.proofs.Rightness.{Right, layers-few, counts-past, counts-empty}
 use Rattle.header.proofs.Totals.{total-same, total-past}
 use Rattle.planner.specs.Planning.{counts, cellsIn}
 use Rattle.planner.specs.Table.{Layers, layersOf, carryOf, chargeOf, cells, standing, none}
 
-pub cells-total : (L : Layers) (n : ℕ → ℕ) (k : ℕ) → cells L n k ≡ total (λ j. n j * L .width j) k
+pub cells-total : (L : Layers) (n : ℕ → ℕ) (k : ℕ) → cells L n k ≡ total (λ j. n j * L .span j) k
 unfolding cells total
 cells-total L n zero = refl
 cells-total L n (suc k) = omega (arith, cells-total L n k)

@@ -54,17 +54,17 @@ least-none f (suc j) h = omega (arith, least-suc f j, h j (le-refl (suc j)), lea
 
 -- ---- a choice of planes
 module _ (L : Layers) (k : ℕ) (prev : ℕ → ℕ) (c n : ℕ) where
-  pub choice-fits : n * L .width k ≤ c → choice L k prev c n ≡ L .carry k (prev (c - n * L .width k)) + L .charge k n
+  pub choice-fits : n * L .span k ≤ c → choice L k prev c n ≡ L .carry k (prev (c - n * L .span k)) + L .charge k n
   unfolding choice
-  choice-fits h = rw (le-leb (n * L .width k) c h)
+  choice-fits h = rw (le-leb (n * L .span k) c h)
 
-  pub choice-over : c < n * L .width k → choice L k prev c n ≡ none
+  pub choice-over : c < n * L .span k → choice L k prev c n ≡ none
   unfolding choice
-  choice-over h = rw (lt-leb (n * L .width k) c h)
+  choice-over h = rw (lt-leb (n * L .span k) c h)
 
-  pub choice-within : choice L k prev c n < none → n * L .width k ≤ c
+  pub choice-within : choice L k prev c n < none → n * L .span k ≤ c
   choice-within h =
-      elim (decLe (n * L .width k) c) [
+      elim (decLe (n * L .span k) c) [
         | yes l ↦ l
         | no l ↦ omega (arith, choice-over (omega arith))
       ]
@@ -100,8 +100,8 @@ best-le L k c n h = omega (arith, best-suc L k c, least-le (choice L k (best L k
 
 module _ (L : Layers) (rising : Rising L) where
   -- where a choice is below none, so is the entry that it reads
-  pub choice-down : (k c n : ℕ) → n * L .width k ≤ c → choice L k (best L k) c n < none → best L k (c - n * L .width k) < none
-  choice-down k c n h l = omega (arith, choice-fits L k (best L k) c n h, carry-up L rising k (best L k (c - n * L .width k)))
+  pub choice-down : (k c n : ℕ) → n * L .span k ≤ c → choice L k (best L k) c n < none → best L k (c - n * L .span k) < none
+  choice-down k c n h l = omega (arith, choice-fits L k (best L k) c n h, carry-up L rising k (best L k (c - n * L .span k)))
 
   -- more cells than there are
   pub best-none : (k c : ℕ) → reach L k < c → best L k c ≡ none
@@ -109,10 +109,10 @@ module _ (L : Layers) (rising : Rising L) where
   best-none (suc k) c h =
       best-suc L k c
       ∙ least-none (choice L k (best L k) c) (suc (L .planes k)) (λ n l.
-      elim (decLe (n * L .width k) c) [
+      elim (decLe (n * L .span k) c) [
         | yes i ↦
-            let rest : reach L k < c - n * L .width k = unfold cells in (omega (arith, h, mul-le-mul-right (L .width k) (le-of-suc-le-suc l))) in
-            omega (arith, choice-fits L k (best L k) c n i, best-none k (c - n * L .width k) rest, carry-up L rising k (best L k (c - n * L .width k)))
+            let rest : reach L k < c - n * L .span k = unfold cells in (omega (arith, h, mul-le-mul-right (L .span k) (le-of-suc-le-suc l))) in
+            omega (arith, choice-fits L k (best L k) c n i, best-none k (c - n * L .span k) rest, carry-up L rising k (best L k (c - n * L .span k)))
         | no i ↦ omega (arith, choice-over L k (best L k) c n (omega arith))
       ])
 
@@ -126,7 +126,7 @@ no-cells L (suc k) = omega (arith, no-cells L k)
 pub reach-all : (L : Layers) (m : ℕ → ℕ) → ((j : ℕ) → m j ≤ L .planes j) → (k : ℕ) → cells L m k ≤ reach L k
 unfolding cells
 reach-all L m h zero = le-refl 0
-reach-all L m h (suc k) = omega (arith, reach-all L m h k, mul-le-mul-right (L .width k) (h k))
+reach-all L m h (suc k) = omega (arith, reach-all L m h k, mul-le-mul-right (L .span k) (h k))
 
 pub reach-rises : (L : Layers) (j k : ℕ) → j ≤ k → reach L j ≤ reach L k
 reach-rises L = rises (reach L) (λ k. unfold cells in (omega arith))

@@ -28,7 +28,7 @@ module _ (L : Layers) (rising : Rising L) where
   own-choice : (m : ℕ → ℕ) (k : ℕ) → choice L k (best L k) (cells L m (suc k)) (m k) ≡ L .carry k (best L k (cells L m k)) + L .charge k (m k)
   unfolding cells
   own-choice m k =
-      choice-fits L k (best L k) (cells L m k + m k * L .width k) (m k) (omega arith)
+      choice-fits L k (best L k) (cells L m k + m k * L .span k) (m k) (omega arith)
       ∙ ap (λ (c : ℕ). L .carry k (best L k c) + L .charge k (m k)) (omega arith)
 
   -- no plan stands below the entry for its cells
@@ -49,20 +49,20 @@ module _ (L : Layers) (rising : Rising L) where
   traced-plan n zero c t j l = absurd (not-suc-le-zero l)
   traced-plan n (suc k) c t j l =
       elim (decLt j k) [
-        | yes i ↦ traced-plan n k (c - n k * L .width k) (t .1) j i
+        | yes i ↦ traced-plan n k (c - n k * L .span k) (t .1) j i
         | no i ↦ let e : k ≡ j = omega arith in subst (λ (x : ℕ). n x ≤ L .planes x) e (t .0 .few)
       ]
 
   pub traced-cells : (n : ℕ → ℕ) (k c : ℕ) → Traced L k c n → cells L n k ≡ c
   unfolding Traced cells
   traced-cells n zero c t = sym t
-  traced-cells n (suc k) c t = omega (arith, traced-cells n k (c - n k * L .width k) (t .1), t .0 .fits)
+  traced-cells n (suc k) c t = omega (arith, traced-cells n k (c - n k * L .span k) (t .1), t .0 .fits)
 
   pub traced-standing : (n : ℕ → ℕ) (k c : ℕ) → Traced L k c n → standing L n k ≡ best L k c
   unfolding Traced standing
   traced-standing n zero c t = rw t (sym (best-first L))
   traced-standing n (suc k) c t =
-      ap (λ (x : ℕ). L .carry k x + L .charge k (n k)) (traced-standing n k (c - n k * L .width k) (t .1))
+      ap (λ (x : ℕ). L .carry k x + L .charge k (n k)) (traced-standing n k (c - n k * L .span k) (t .1))
       ∙ sym (choice-fits L k (best L k) c (n k) (t .0 .fits))
       ∙ t .0 .gives
 
@@ -74,7 +74,7 @@ module _ (L : Layers) (rising : Rising L) where
       by-cases prefers (λ (x : ℕ → ℕ). x k) (before k) m n b
       (λ l. t .0 .first (m k) (p k (le-refl (suc k))) l gives)
       (λ e r.
-      traced-first m n k (c - n k * L .width k) (t .1) below (rest e)
+      traced-first m n k (c - n k * L .span k) (t .1) below (rest e)
       (sym entry ∙ ap (best L k) (rest e))
       r)
     where
@@ -99,8 +99,8 @@ module _ (L : Layers) (rising : Rising L) where
       entry : best L k (cells L m k) ≡ standing L m k
       entry = carry-one L rising k (best L k (cells L m k)) (standing L m k) (omega (arith, stands, reads, gives))
 
-      rest : m k ≡ n k → cells L m k ≡ c - n k * L .width k
-      rest e = unfold cells in (omega (arith, ec, ap (λ (x : ℕ). x * L .width k) e))
+      rest : m k ≡ n k → cells L m k ≡ c - n k * L .span k
+      rest e = unfold cells in (omega (arith, ec, ap (λ (x : ℕ). x * L .span k) e))
 
   module _ (k c : ℕ) (n : ℕ → ℕ) (t : Traced L k c n) where
     tied : (m : ℕ → ℕ) → IsPlan L k m → cells L m k ≡ cells L n k → standing L m k ≡ standing L n k → before k m n ≡ false

@@ -81,11 +81,16 @@ ltb-strict =
 pub ltb-apart : Apart ltb
 ltb-apart a b p q = omega (arith, ltb-false a b p, ltb-false b a q)
 
+-- whichever of two counts is preferred
 pub prefers-strict : Strict prefers
-prefers-strict = ltb-strict
+prefers-strict =
+    record {
+      self = λ a. omega (arith, le-ltb);
+      trans = λ a b c p q. omega (arith, ltb-true, lt-ltb);
+    }
 
 pub prefers-apart : Apart prefers
-prefers-apart = ltb-apart
+prefers-apart a b p q = omega (arith, ltb-false)
 
 -- ---- the tie rule
 pub before-strict : (k : ℕ) → Strict (before k)

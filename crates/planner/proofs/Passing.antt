@@ -50,7 +50,7 @@ pass-as f from from′ to to′ t₀ t c c′ ef et ec p = rw (← ef, ← et, �
 -- ---- a count of planes is tried by a pass from row k to row k + 1, as far on as its planes have cells
 module _ (L : Layers) (rising : Rising L) (k n : ℕ) (f : ℕ → ℕ) (is : (m : ℕ) → f m ≡ L .carry k m + L .charge k n) where
   abbrev used : ℕ
-  used = n * L .width k
+  used = n * L .span k
 
   abbrev least : ℕ → ℕ → ℕ
   least c = leastOf (choice L k (best L k) c)

@@ -16,7 +16,7 @@ use Rattle.planner.proofs.Entries.{least-at, choice-fits, choice-within
 
 -- ---- a choice, from the entry m that it reads
 pub choice-read :
-    (L : Layers) (k c n used m v own : ℕ) → used ≡ n * L .width k → used ≤ c → m ≡ best L k (c - used)
+    (L : Layers) (k c n used m v own : ℕ) → used ≡ n * L .span k → used ≤ c → m ≡ best L k (c - used)
     → v ≡ L .carry k m → own ≡ L .charge k n → v + own ≡ choice L k (best L k) c n
 choice-read L k c n used m v own eu h em ev eo =
     omega (
@@ -34,7 +34,7 @@ module _ (L : Layers) (k c n : ℕ) (low : best L (suc k) c < none)
         few = h;
         fits = choice-within L k (best L k) c n (omega arith);
         gives = e;
-        first = λ i hi l g. none-before i (ltb-true i n l) g;
+        first = λ i hi l g. none-before i (omega (arith, ltb-true)) g;
       }
 
   -- the last count does, where none before it does
@@ -66,14 +66,14 @@ module _ (L : Layers) (size : ℕ) (plan : List ℕ) where
       record { layer = le-refl layersMost; inside = le-refl size; long = long; low = low; rest = λ n agree t. t }
 
   module _ (rising : Rising L) (k c r : ℕ) (w : Walked L size plan (suc k) c) (p : Preferred L k c r) where
-    rest-more : Rest L (set plan k r) size k (c - r * L .width k)
+    rest-more : Rest L (set plan k r) size k (c - r * L .span k)
     unfolding Traced
     rest-more n agree t =
         let e : r ≡ n k = sym (agree k (le-refl k) (w .layer) ∙ getD-set-same plan k r 0 (omega (arith, w .layer, w .long))) in
         w .rest n (λ j l h. agree j (omega arith) h ∙ getD-set-other plan k j r 0 (omega arith))
-        (subst (λ (x : ℕ). Preferred L k c x × Traced L k (c - x * L .width k) n) e (p, t))
+        (subst (λ (x : ℕ). Preferred L k c x × Traced L k (c - x * L .span k) n) e (p, t))
 
-    pub walk-more : Walked L size (set plan k r) k (c - r * L .width k)
+    pub walk-more : Walked L size (set plan k r) k (c - r * L .span k)
     walk-more =
         record {
           layer = omega (arith, w .layer);

@@ -4,13 +4,14 @@ use mathlib.Core.List.{List, [], _∷_, _++_}
 use mathlib.Core.Path.{_≡_}
 use Prim.Native.Nat.{ℕ, zero, suc, _≤_}
 use lib.Dec.{ltb, leb, eqb}
-use lib.ListN.{length, getD, replicate}
+use lib.ListN.{length, getD}
 use Rattle.layers.specs.Limits.{layersMost}
 use Rattle.header.specs.declared.Header.{Header}
 use Rattle.header.specs.declared.Plan.{Plan}
 use Rattle.header.specs.declared.Details.{Details}
 use Rattle.header.specs.Refusals.{refusal, detailsOf}
 use Rattle.header.specs.Header.{planesOf, cellsOf}
+use Rattle.header.specs.Plan.{noPlan}
 use Rattle.header.specs.Opening.{Opening, opening}
 use Rattle.header.specs.Figure.{figureOf}
 use Rattle.planner.specs.declared.Planned.{Planned}
@@ -90,7 +91,7 @@ bestByLimit h limit = bestOf (withinLimit h limit) (betterByLimit h) (h .planes)
 
 -- loading none takes no cells
 unfoldable pub bestByCells : Header → ℕ → List ℕ
-bestByCells h most = bestOf (withinCells h most) (betterByCells h) (replicate layersMost 0) (plansOf h)
+bestByCells h most = bestOf (withinCells h most) (betterByCells h) (noPlan .planes) (plansOf h)
 
 -- the same as a record: the plan is allowed, and no allowed plan is better. Exactly one plan is so (proofs/Best)
 pub record Best (h : Header) (allowed : List ℕ → Bool) (better : List ℕ → List ℕ → Bool) (ns : List ℕ) : Type 0 where
@@ -107,7 +108,7 @@ pub record Planning : Type 0 where
   pub figure : ℕ
 
 abbrev pub no : Details → Planning
-no d = record { refused = d; plan = record { planes = replicate layersMost 0 }; cells = 0; figure = 0 }
+no d = record { refused = d; plan = noPlan; cells = 0; figure = 0 }
 
 -- "The cells and figure reported are the plan's own."
 abbrev pub found : Header → List ℕ → Planning

@@ -7,18 +7,17 @@ use lib.Dec.{leb, eqb}
 use lib.ListN.{length, getD}
 use Rattle.layers.specs.Limits.{layersMost}
 use Rattle.layers.specs.Calls.{sizing}
-use Rattle.layers.specs.Prediction as P
 use Rattle.layers.specs.Carry as C
 use Rattle.header.specs.declared.Header.{Header}
 use Rattle.header.specs.Header.{cellsMost, planesOf, cellsAt}
-use Rattle.header.specs.Figure.{loss}
+use Rattle.header.specs.Figure.{ownLoss}
 use Rattle.planner.specs.Planning.{prefers, cellsIn, figureIn}
 
--- What planning asks of the layers: layer k has planes k planes of width k cells each. Where m stands before layer k, carry k m + charge k n
+-- What planning asks of the layers: layer k has planes k planes, and one of them spans span k cells. Where m stands before layer k, carry k m + charge k n
 -- stands after it, n of its planes being loaded.
 pub record Layers : Type 0 where
   pub planes : ℕ → ℕ
-  pub width : ℕ → ℕ
+  pub span : ℕ → ℕ
   pub carry : ℕ → ℕ → ℕ
   pub charge : ℕ → ℕ → ℕ
 
@@ -27,15 +26,15 @@ unfoldable pub carryOf : Header → ℕ → ℕ → ℕ
 carryOf h k m = cond (eqb (sizing (h .shape) k) 0) m (C.carry (h .shape) (h .curve) k m)
 
 unfoldable pub chargeOf : Header → ℕ → ℕ → ℕ
-chargeOf h k n = loss h k (planesOf h k - n) * P.width (h .step)
+chargeOf h k n = ownLoss h (λ _. n) k
 
 abbrev pub layersOf : Header → Layers
-layersOf h = record { planes = planesOf h; width = cellsAt (h .shape); carry = carryOf h; charge = chargeOf h }
+layersOf h = record { planes = planesOf h; span = cellsAt (h .shape); carry = carryOf h; charge = chargeOf h }
 
 -- the cells of the first k layers' planes that a plan loads, and what stands after those layers, without the step
 unfoldable pub cells : Layers → (ℕ → ℕ) → ℕ → ℕ
 cells L n zero = 0
-cells L n (suc k) = cells L n k + n k * L .width k
+cells L n (suc k) = cells L n k + n k * L .span k
 
 unfoldable pub standing : Layers → (ℕ → ℕ) → ℕ → ℕ
 standing L n zero = 0
@@ -57,7 +56,7 @@ leastOf f (suc j) = min (leastOf f j) (f j)
 
 -- where it stands when layer k is loaded with n planes and the layers before it take the rest of c cells as well as they can: prev
 unfoldable pub choice : Layers → ℕ → (ℕ → ℕ) → ℕ → ℕ → ℕ
-choice L k prev c n = cond (leb (n * L .width k) c) (L .carry k (prev (c - n * L .width k)) + L .charge k n) none
+choice L k prev c n = cond (leb (n * L .span k) c) (L .carry k (prev (c - n * L .span k)) + L .charge k n) none
 
 -- the least that the first k layers can stand at in exactly c cells, or none
 unfoldable pub best : Layers → ℕ → ℕ → ℕ
@@ -113,14 +112,14 @@ pub record RowEnd (most top : ℕ) : Type 0 where
 -- n is the preferred count of layer k's planes among those that give the least in c cells
 pub record Preferred (L : Layers) (k c n : ℕ) : Type 0 where
   pub few : n ≤ L .planes k
-  pub fits : n * L .width k ≤ c
+  pub fits : n * L .span k ≤ c
   pub gives : choice L k (best L k) c n ≡ best L (suc k) c
   pub first : (i : ℕ) → i ≤ L .planes k → prefers i n ≡ true → choice L k (best L k) c i ≡ best L (suc k) c → ⊥
 
 -- the plan n is read off the table from c cells of the first k layers: in each layer the preferred count
 unfoldable pub Traced : Layers → ℕ → ℕ → (ℕ → ℕ) → Type 0
 Traced L zero c n = c ≡ 0
-Traced L (suc k) c n = Preferred L k c (n k) × Traced L k (c - n k * L .width k) n
+Traced L (suc k) c n = Preferred L k c (n k) × Traced L k (c - n k * L .span k) n
 
 -- ---- what was found
 -- the plan ns is the one asked for, and has so many cells and this figure

@@ -3,7 +3,6 @@ ghost use mathlib.Core.Path.{_≡_};
 ghost use mathlib.Core.Bool.{true};
 ghost use Prim.Native.Nat.{ℕ, suc, _*_, _^_, _<_, _≤_, min};
 ghost use lib.ListN.{replicate};
-ghost use Rattle.digits.specs.Digits as D;
 ghost use Rattle.layers.specs.Carry as C;
 ghost use Rattle.layers.specs.Limits.{layersMost};
 ghost use Rattle.header.specs.Header as Hd;
@@ -22,21 +21,13 @@ pub(crate) const ROW: usize = MOST_CELLS + 1;
 
 pub(crate) const TABLE: usize = (MOST_LAYERS + 1) * ROW;
 
-// What d missing digits can lose.
-fn loss(d: u64) -> u64
-    requires { ⌜ d ≤ Hd.placesMost ⌝ }
-    ensures { λ r. ⌜ r ≡ D.loss d ⌝ }
-{
-    (2 << d) / 3
-}
-
 // What a layer adds of its own where n of its planes are loaded.
 pub(crate) fn charge(header: Header, k: usize, n: u64) -> u64
     requires { ⌜ (O.right header ≡ true) × (k < layersMost) × (n ≤ Hd.planesOf header k) ⌝ }
     ensures { λ r. ⌜ (r ≡ T.chargeOf header k n) × (r ≤ 2 ^ 40) ⌝ }
 {
     let counts = header.planes;
-    loss(counts[k] - n) * (2 * header.step + 1)
+    digits::loss(counts[k] - n) * (2 * header.step + 1)
 }
 
 // The rule by which a layer carries: an empty one changes nothing, as the linear rule does.

@@ -1,3 +1,5 @@
+pub mod Padding
+pub mod Fitting
 pub mod Digits
 pub mod Reading
 pub mod Search

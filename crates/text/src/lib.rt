@@ -1,9 +1,13 @@
 // Decimal numbers and lines of text, read strictly and written in one way. Nothing here can wrap, whatever the text.
 ghost use mathlib.Core.Path.{_≡_};
 ghost use Prim.Native.Nat.{_+_};
-ghost use lib.ListN.{length, take, drop};
+ghost use lib.ListN.{drop};
 ghost use Rattle.text.specs.Decimal as D;
 ghost use Rattle.text.specs.Line as L;
+ghost use Rattle.text.specs.Text as T;
+
+// The characters of the largest u64.
+pub const MOST_CHARACTERS: usize = 20;
 
 // A number that was read, or a text that is not one.
 pub enum Number {
@@ -18,9 +22,9 @@ pub enum Line {
     Number { value: u64, length: usize },
 }
 
-// The characters of a number: the first `length` of the bytes.
+// The characters of a number: the first `length` of the bytes; zeros follow.
 pub struct Decimal {
-    pub bytes: [u8; 20],
+    pub bytes: [u8; MOST_CHARACTERS],
     pub length: usize,
 }
 
@@ -28,13 +32,13 @@ pub struct Decimal {
 fn push(v: u64, x: u8, high: u64) -> Number
     ensures { λ r. ⌜ r ≡ D.pushed high v x ⌝ }
 {
-    if x < 48 {
+    if x < b'0' {
         return Number::Wrong;
     }
-    if 57 < x {
+    if b'9' < x {
         return Number::Wrong;
     }
-    let d = (x - 48) as u64;
+    let d = (x - b'0') as u64;
     if high / 10 < v {
         return Number::Wrong;
     }
@@ -83,21 +87,37 @@ pub fn parse(s: &[u8], low: u64, high: u64) -> Number
 
 // The characters of n.
 pub fn to_decimal(n: u64) -> Decimal
-    ensures { λ r. ⌜ (take (r .length) (r .bytes) ≡ D.digits n) × (r .length ≡ length (D.digits n)) ⌝ }
+    ensures { λ r. ⌜ r ≡ D.decimalOf n ⌝ }
 {
     if n < 10 {
-        let mut bytes = [0u8; 20];
-        bytes[0] = 48 + n as u8;
+        let mut bytes = [0u8; MOST_CHARACTERS];
+        bytes[0] = b'0' + n as u8;
         return Decimal { bytes, length: 1 };
     }
     let front = to_decimal(n / 10);
     let mut bytes = front.bytes;
     let at = front.length;
-    bytes[at] = 48 + (n % 10) as u8;
+    bytes[at] = b'0' + (n % 10) as u8;
     Decimal {
         bytes,
         length: at + 1,
     }
+}
+
+// Puts bytes at a place and answers the place after them. Where they do not fit, nothing is put and the place stays.
+pub fn put(out: &mut [u8], at: usize, bytes: &[u8]) -> usize
+    ensures { λ r. ⌜ (r ≡ T.after (now (out .entry)) at (now (bytes .entry))) × (now (out .exit) ≡ T.putting (now (out .entry)) at (now (bytes .entry))) ⌝ }
+{
+    if out.len() < at {
+        return at;
+    }
+    if out.len() - at < bytes.len() {
+        return at;
+    }
+    for i in 0..bytes.len() {
+        out[at + i] = bytes[i];
+    }
+    at + bytes.len()
 }
 
 // The place of the first byte x from a place on, or the slice's length (the place itself where it is past the end).
@@ -133,7 +153,7 @@ pub fn starts_with(s: &[u8], key: &[u8]) -> bool
 pub fn read_line(s: &[u8], at: usize, key: &[u8], low: u64, high: u64) -> Line
     ensures { λ r. ⌜ r ≡ L.lineAt (now (key .entry)) low high (drop at (now (s .entry))) ⌝ }
 {
-    let end = find(s, at, 10);
+    let end = find(s, at, b'\n');
     if s.len() <= end {
         return Line::Short;
     }

@@ -8,7 +8,7 @@ use lib.Seq.{sets, sets-eq}
 use Rattle.layers.specs.Limits.{layersMost}
 use Rattle.header.specs.declared.Details.{Details}
 use Rattle.header.proofs.Stores.{sets-sets}
-use Rattle.trace_card.specs.Boundary.{answerLength, numbers}
+use Rattle.trace_card.specs.Boundary.{answerLength, planAt, numbers}
 
 -- a run as long as the slice is what stands there
 pub filled : (out ns : List ℕ) → length ns ≡ length out → sets out 0 ns ≡ ns
@@ -21,13 +21,13 @@ module _ (out : List ℕ) (d : Details) (size figure : ℕ) (plan : List ℕ) wh
   front = d .number ∷ d .first ∷ d .second ∷ size ∷ figure ∷ []
 
   abbrev rest : List ℕ
-  rest = replicate (answerLength - (5 + layersMost)) 0
+  rest = replicate (answerLength - (planAt + layersMost)) 0
 
-  runs : length plan ≡ layersMost → sets (sets (sets out 0 front) 5 plan) (5 + layersMost) rest ≡ sets out 0 (numbers d size figure plan)
+  runs : length plan ≡ layersMost → sets (sets (sets out 0 front) planAt plan) (planAt + layersMost) rest ≡ sets out 0 (numbers d size figure plan)
   unfolding numbers
   runs e =
-      ap (λ (n : ℕ). sets (sets (sets out 0 front) 5 plan) (5 + n) rest) (sym e)
-      ∙ sets-sets (sets out 0 front) 5 plan rest
+      ap (λ (n : ℕ). sets (sets (sets out 0 front) planAt plan) (planAt + n) rest) (sym e)
+      ∙ sets-sets (sets out 0 front) planAt plan rest
       ∙ sets-sets out 0 front (plan ++ rest)
 
   numbers-long : length plan ≡ layersMost → length (numbers d size figure plan) ≡ answerLength
@@ -37,7 +37,7 @@ module _ (out : List ℕ) (d : Details) (size figure : ℕ) (plan : List ℕ) wh
   -- the runs as the program puts them: each number and each place is the definition's
   pub answer-is : length out ≡ answerLength → length plan ≡ layersMost → (n f s z g i j k : ℕ) (a b c : List ℕ)
       → a ≡ sets out i (n ∷ f ∷ s ∷ z ∷ g ∷ []) → b ≡ sets a j plan → c ≡ sets b k rest
-      → n ≡ d .number → f ≡ d .first → s ≡ d .second → z ≡ size → g ≡ figure → i ≡ 0 → j ≡ 5 → k ≡ 5 + layersMost → c ≡ numbers d size figure plan
+      → n ≡ d .number → f ≡ d .first → s ≡ d .second → z ≡ size → g ≡ figure → i ≡ 0 → j ≡ planAt → k ≡ planAt + layersMost → c ≡ numbers d size figure plan
   answer-is o e n f s z g i j k a b c x y w en ef es ez eg ei ej ek =
       rw (y, x, en, ef, es, ez, eg, ei, ej, ek) at w
       ∙ runs e

@@ -1,4 +1,4 @@
--- The C boundary (include/trace_card.h): what each function returns and leaves in the caller's memory, by the definitions of the calls.
+-- The C boundary, which include/trace_card.h describes in the words quoted here: what each function returns and leaves in the caller's memory, by the definitions of the calls.
 use mathlib.Core.Bool.{Bool, cond}
 use mathlib.Core.List.{List, _∷_, _++_}
 use Prim.Native.Nat.{ℕ, _+_, _-_}
@@ -10,6 +10,7 @@ use Rattle.layers.specs.Limits.{layersMost}
 use Rattle.header.specs.declared.Details.{Details}
 use Rattle.header.specs.declared.Plan.{Plan}
 use Rattle.header.specs.Refusals.{refusal}
+use Rattle.header.specs.Plan.{noPlan}
 use Rattle.header.specs.Figure.{Bounding, bounding}
 use Rattle.card.specs.Writing.{Writing, writing, badSizes, shapeOf}
 use Rattle.card.specs.Writing as W
@@ -17,19 +18,23 @@ use Rattle.card.specs.Reading.{Reading, reading, showing}
 use Rattle.card.specs.Refining.{refining}
 use Rattle.planner.specs.Planning.{Planning, byLimit, byCells}
 
--- ---- the answer: "24 numbers: [0] the refusal's number, [1] [2] its details, [3] the card's length (write) or the plan's cells (planning), [4] the
--- figure, [5..] the plan (13 numbers; reached, given or found); what a call does not answer is 0"
+-- ---- the answer "has 24 numbers: [0] the refusal's number, [1] and [2] its details, [3] the card's length (write) or the plan's cells (planning),
+-- [4] the figure, [5] to [17] the plan that was reached, given or found; what a call does not answer is 0"
 abbrev pub answerLength : ℕ
 answerLength = 24
 
+-- where the plan stands in it
+abbrev pub planAt : ℕ
+planAt = 5
+
 unfoldable pub numbers : Details → ℕ → ℕ → List ℕ → List ℕ
 numbers d size figure plan =
-    d .number ∷ d .first ∷ d .second ∷ size ∷ figure ∷ (plan ++ replicate (answerLength - (5 + layersMost)) 0)
+    d .number ∷ d .first ∷ d .second ∷ size ∷ figure ∷ (plan ++ replicate (answerLength - (planAt + layersMost)) 0)
 
 abbrev pub nothing : List ℕ
-nothing = replicate layersMost 0
+nothing = noPlan .planes
 
--- "`answer` not 24 long, or `plan` not 13 long: returns 3, nothing is written"
+-- "Where answer is not 24 long, or plan not 13, a function returns 3 and writes nothing."
 abbrev pub answerable : List ℕ → Bool
 answerable answer = eqb (length answer) answerLength
 
@@ -62,7 +67,7 @@ writtenAs w =
     }
 
 module _ (xs : List ℤ) (rows cols levels curve step : ℕ) (qs vs : List ℤ) (out : List ℕ) where
-  -- "`curve` is 0 linear, 1 cubic, and any other number is refusal 2", so that refusal 1 still comes first
+  -- "curve is 0 for linear and 1 for cubic; any other number is refusal 2", so that refusal 1 still comes first
   unfoldable pub writingBy : Writing
   writingBy =
       cond (eqb curve 0) (writing xs (shapeOf rows cols levels) Linear step qs vs out)

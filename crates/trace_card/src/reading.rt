@@ -19,7 +19,7 @@ fn put_reached(answer: &mut [u64], reached: Reached) -> u64
     put_answer(answer, header::details_of(refusal), 0, reached.figure, plan)
 }
 
-// Reads a card, cut or whole, with a plan.
+// Reads a card, truncated or whole, with a plan.
 #[no_mangle]
 pub extern "C" fn trace_card_read(
     card: &[u8],
@@ -40,7 +40,7 @@ pub extern "C" fn trace_card_read(
     put_reached(answer, reached)
 }
 
-// Reads a card, cut or whole, with all the planes that are there.
+// Reads a card, truncated or whole, with all the planes that are there.
 #[no_mangle]
 pub extern "C" fn trace_card_show(
     card: &[u8],

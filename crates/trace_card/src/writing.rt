@@ -11,14 +11,12 @@ use header::Plan;
 use header::Refusal;
 use layers::Curve;
 use layers::MOST_LAYERS;
-use layers::Shape;
 
 // The refusal of a curve that is none: a wrong size still comes first.
 fn no_curve(rows: usize, cols: usize) -> Refusal
     ensures { λ r. ⌜ detailsOf r ≡ cond (W.badSizes rows cols) (refusal 1 0 0) (refusal 2 0 0) ⌝ }
 {
-    let levels: usize = 0;
-    if layers::accepted(Shape { rows, cols, levels }) {
+    if layers::sized(rows, cols) {
         return Refusal::BadSettings;
     }
     Refusal::BadSize

@@ -1,15 +1,15 @@
 -- A negative x is -1 - n for the natural n that the cast gives, and floorDiv goes by the same two cases.
-use mathlib.Core.Path.{_≡_, refl, sym, ap, _∙_}
+use mathlib.Core.Path.{_≡_, sym, ap, _∙_}
 use native.Mathlib.Nat.{div-le-self}
 use native.Mathlib.Omega.{arith}
-use Prim.Native.Nat.{ℕ, suc, _+_, _<_, _≤_, _/_, _^_}
+use Prim.Native.Nat.{ℕ, suc, _+_, _<_, _/_, _^_}
 use lib.IntN.{ℤ, pos, negsuc, _-ℤ_, natAbs}
 use mir.Syntax.{w64}
-use mir.Val.{SFits, toZ, ofZ}
+use mir.Val.{toZ, ofZ}
 use borrow.Author.Needs.{needs}
 use Rattle.integers.specs.Distance.{up, down}
 use Rattle.integers.specs.Floor.{floorDiv}
-use Rattle.integers.proofs.Diff.{Diff, #, lit, neg-lit, via, _⊖_}
+use Rattle.integers.proofs.Diff.{#, lit, neg-lit, _⊖_}
 use Rattle.integers.proofs.Order.{eq-by}
 use Rattle.integers.proofs.Machine.{arg, bits, cast, sfits-by, sfits-at, unsigned-by, unsigned-is, lt-test, not-lt-test}
 use Rattle.integers.proofs.floor_div.Statement.{statement}

@@ -5,13 +5,13 @@ use native.Mathlib.Nat.{le-refl}
 use native.Mathlib.Omega.{arith}
 use lib.ListN.{length, getD, set}
 use denote.Ref.{now}
-use Rattle.card.specs.Words.{withPlane}
+use Rattle.card.specs.Words.{wordsWith}
 use Rattle.card.proofs.PlaneSums.{at-most, with-length, with-none, with-next, with-after}
 use Rattle.card.proofs.loading.add_byte.Statement.{statement}
 use Rattle.card.proofs.loading.add_byte.Tie as tie
 
 abbrev Inv-loop : tie.InvT-loop
-Inv-loop byte p words₀ first j₀ words j = (j ≤ 8) × (words ≡ withPlane words₀ first j p (λ i. byte / 2 ^ i % 2))
+Inv-loop byte p words₀ first j₀ words j = (j ≤ 8) × (words ≡ wordsWith words₀ first j p (λ i. byte / 2 ^ i % 2))
 
 abbrev μ-loop : tie.MeasureT-loop
 μ-loop byte p words₀ first j₀ words j = 8 - j
@@ -90,7 +90,7 @@ loop-again c = let l = c .before .before in
     let whole : added % 4294967296 ≡ added = omega (arith, adds l) in (
       omega arith,
       ap (λ vs. set vs at (getD vs at 0 + added % 4294967296)) (l .loop .inv .1)
-          ∙ with-next ws (s .args .first) j (s .args .p) (bit s) _ (omega arith) (ap (λ (x : ℕ). getD (withPlane ws (s .args .first) j (s .args .p) (bit s)) at 0 + x) whole),
+          ∙ with-next ws (s .args .first) j (s .args .p) (bit s) _ (omega arith) (ap (λ (x : ℕ). getD (wordsWith ws (s .args .first) j (s .args .p) (bit s)) at 0 + x) whole),
     )
 
 same-length : tie.Need-same-length Inv-loop μ-loop
@@ -100,7 +100,7 @@ returns : tie.Need-returns Inv-loop μ-loop
 returns c = let l = c .before in
     let s = S l in
     let e : l .loop .j ≡ 8 = omega arith in
-    l .loop .inv .1 ∙ ap (λ (j : ℕ). withPlane (now (s .args .words)) (s .args .first) j (s .args .p) (bit s)) e
+    l .loop .inv .1 ∙ ap (λ (j : ℕ). wordsWith (now (s .args .words)) (s .args .first) j (s .args .p) (bit s)) e
 
 pub add-byte-spec : {M : Type 1} → statement M
 add-byte-spec =

@@ -6,14 +6,14 @@ use native.Mathlib.Omega.{arith}
 use lib.ListN.{length, getD}
 use denote.Ref.{now}
 use Rattle.header.specs.Header.{cellPoints}
-use Rattle.card.specs.Words.{withPlane, bitAt}
+use Rattle.card.specs.Words.{wordsWith, bitAt}
 use Rattle.card.proofs.ZeroBits.{bit-is, bit-most}
 use Rattle.card.proofs.PlaneSums.{with-length, with-none, with-run, with-most}
 use Rattle.card.proofs.loading.add_plane.Statement.{statement}
 use Rattle.card.proofs.loading.add_plane.Tie as tie
 
 abbrev Inv-loop : tie.InvT-loop
-Inv-loop bytes from cells p words₀ start n b₀ words b = (b ≤ n) × (words ≡ withPlane words₀ start (8 * b) p (bitAt bytes from))
+Inv-loop bytes from cells p words₀ start n b₀ words b = (b ≤ n) × (words ≡ wordsWith words₀ start (8 * b) p (bitAt bytes from))
 
 abbrev μ-loop : tie.MeasureT-loop
 μ-loop bytes from cells p words₀ start n b₀ words b = n - b
@@ -77,9 +77,9 @@ loop-again c = let l = c .before .before .before .before .before .before in
     let more : 8 * b + 8 ≡ 8 * (b + 1) = omega arith in (
       omega arith,
       c .before .before .add-byte .ensures
-          ∙ ap (λ vs. withPlane vs (s .args .start + 8 * b) 8 (s .args .p) eight) (l .loop .inv .1)
+          ∙ ap (λ vs. wordsWith vs (s .args .start + 8 * b) 8 (s .args .p) eight) (l .loop .inv .1)
           ∙ with-run ws (s .args .start) (8 * b) 8 (s .args .p) (bit s) eight (λ i h. sym (bit-is bs (s .args .from) b i h))
-          ∙ ap (λ (n : ℕ). withPlane ws (s .args .start) n (s .args .p) (bit s)) more,
+          ∙ ap (λ (n : ℕ). wordsWith ws (s .args .start) n (s .args .p) (bit s)) more,
     )
 
 same-length : tie.Need-same-length Inv-loop μ-loop
@@ -89,7 +89,7 @@ returns : tie.Need-returns Inv-loop μ-loop
 returns c = let l = c .before in
     let s = S l in
     let e : 8 * l .loop .b ≡ cellPoints * s .args .cells = omega arith in
-    l .loop .inv .1 ∙ ap (λ (n : ℕ). withPlane (now (s .args .words)) (s .args .start) n (s .args .p) (bit s)) e
+    l .loop .inv .1 ∙ ap (λ (n : ℕ). wordsWith (now (s .args .words)) (s .args .start) n (s .args .p) (bit s)) e
 
 pub add-plane-spec : {M : Type 1} → statement M
 add-plane-spec =

@@ -6,20 +6,22 @@ use Prim.Native.Nat.{ℕ, _+_, _-_, _*_, _/_, _%_, _^_, _<_, _≤_}
 use native.Mathlib.Decide.{ℕ-discrete}
 use native.Mathlib.Omega.{arith}
 use borrow.Author.Tests.{not-true, not-false}
-use lib.Dec.{ltb}
+use lib.Dec.{ltb, eqb}
 use lib.ListN.{length, getD}
 use denote.Ref.{now}
 use Rattle.layers.specs.declared.Shape.{Shape}
 use Rattle.layers.specs.Limits.{levelsMost, layersMost}
+use Rattle.layers.specs.Calls.{sizing}
 use Rattle.layers.specs.Sheet.{layers, layerSize}
-use Rattle.layers.proofs.Accepting.{accepted-yes}
+use Rattle.layers.proofs.Accepting.{accepted-yes, count-is}
 use Rattle.header.specs.declared.Header.{Header}
-use Rattle.header.specs.Header.{placesMost, cellBytes, cellPoints, cellsMost, planesOf, planeCells}
-use Rattle.header.specs.CardOrder.{cellsBefore, widthMost}
+use Rattle.header.specs.Header.{placesMost, cellBytes, cellPoints, cellsMost, planesOf, planeCells, cellsAt, planeCellsMost}
+use Rattle.header.specs.CardOrder.{cellsBefore}
 use Rattle.header.proofs.Total.{plane-room, plane-most}
 use Rattle.header.proofs.Cells.{size-there, cells-there}
 use Rattle.header.proofs.Rightness.{Right, right-yes}
 use Rattle.card.specs.Reading.{badSlot}
+use Rattle.card.specs.declared.Loaded.the-variants.{Bad}
 use Rattle.card.specs.Words.{wordsMost, blockStart, asked, slotWords}
 use Rattle.card.proofs.Blocks.{block-room}
 use Rattle.card.proofs.LayerPlanes.{few-planes}
@@ -30,15 +32,15 @@ use Rattle.card.proofs.loading.load_body.Statement.{statement}
 use Rattle.card.proofs.loading.load_body.Tie as tie
 
 abbrev Inv-loop : tie.InvT-loop
-Inv-loop bytes at words₀ shape counts wanted layers slots from₀ start₀ t₀ words from start t =
+Inv-loop bytes at words₀ shape counts wanted n slots from₀ start₀ t₀ words from start t =
     (t ≤ slots)
-    × (t < slots → from ≡ at + cellBytes * cellsBefore (bare shape counts) (t % layers) (placesMost - 1 - t / layers))
-    × (0 < t % layers → start ≡ blockStart shape (t % layers))
+    × (t < slots → from ≡ at + cellBytes * cellsBefore (bare shape counts) (t % layers shape) (placesMost - 1 - t / layers shape))
+    × (0 < t % layers shape → start ≡ blockStart shape (t % layers shape))
     × ((u : ℕ) → u < t → badSlot (bare shape counts) at bytes (λ k. getD wanted k 0) u ≡ false)
     × Partly (bare shape counts) at bytes (λ k. getD wanted k 0) t words
 
 abbrev μ-loop : tie.MeasureT-loop
-μ-loop bytes at words₀ shape counts wanted layers slots from₀ start₀ t₀ words from start t = slots - t
+μ-loop bytes at words₀ shape counts wanted n slots from₀ start₀ t₀ words from start t = slots - t
 
 -- ---- the terms
 abbrev S : tie.At-loop Inv-loop μ-loop → tie.Start Inv-loop μ-loop
@@ -75,12 +77,25 @@ shallow s = accepted-yes (sh s) (right s .shape) .shallow
 few : (s : tie.Start Inv-loop μ-loop) (j : ℕ) → j < K s → planesOf (H s) j ≤ placesMost
 few s = few-planes (right s)
 
+count : (c : tie.After-layer-count Inv-loop μ-loop) → (let s = c .before .before .before .before .before .before in c .layer-count .result ≡ K s)
+count c = let s = c .before .before .before .before .before .before in c .layer-count .ensures ∙ count-is (sh s) (right s .shape)
+
 none : (s : tie.Start Inv-loop μ-loop) → Partly (H s) (s .args .at) (now (s .args .bytes)) (plan s) 0 (now (s .args .words))
 none s = partly-none (H s) (s .args .at) (now (s .args .bytes)) (plan s) _ (now (s .args .words)) (s .pre .0 .2) refl
 
 -- ---- what holds in a turn
+-- the layer and the place that the code works out
+layer-is : (l : tie.At-loop Inv-loop μ-loop) → l .loop .t % l .before .layer-count .result ≡ k l
+layer-is l = ap (λ (n : ℕ). l .loop .t % n) (count (l .before))
+
+place-is : (l : tie.At-loop Inv-loop μ-loop) → placesMost - 1 - l .loop .t / l .before .layer-count .result ≡ p l
+place-is l = ap (λ (n : ℕ). placesMost - 1 - l .loop .t / n) (count (l .before))
+
+low : (c : tie.In-loop Inv-loop μ-loop) → c .before .loop .t < placesMost * K (S (c .before))
+low c = omega (arith, c .loop-test .taken, count (c .before .before))
+
 inside : (c : tie.In-loop Inv-loop μ-loop) → (c .before .loop .t / K (S (c .before)) ≤ placesMost - 1) × (k (c .before) < K (S (c .before)))
-inside c = slot-in (K (S (c .before))) (omega arith) (c .before .loop .t) (c .loop-test .taken)
+inside c = slot-in (K (S (c .before))) (omega arith) (c .before .loop .t) (low c)
 
 words : (l : tie.At-loop Inv-loop μ-loop) → Partly (H (S l)) (S l .args .at) (now (S l .args .bytes)) (plan (S l)) (l .loop .t) (l .loop .words)
 words l = l .loop .inv .4
@@ -91,8 +106,8 @@ small l i = partly-small (H (S l)) (S l .args .at) (now (S l .args .bytes)) (pla
 from-is : (c : tie.In-loop Inv-loop μ-loop) → c .before .loop .from ≡ place (c .before)
 from-is c = c .before .loop .inv .1 (c .loop-test .taken)
 
-a-layer : (c : tie.In-loop Inv-loop μ-loop) → k (c .before) < layersMost
-a-layer c = omega (arith, inside c, shallow (S (c .before)))
+a-layer : (c : tie.In-loop Inv-loop μ-loop) → c .before .loop .t % c .before .before .layer-count .result < layersMost
+a-layer c = omega (arith, layer-is (c .before), inside c, shallow (S (c .before)))
 
 abbrev I : tie.After-block Inv-loop μ-loop → tie.In-loop Inv-loop μ-loop
 I a = a .before .before .before
@@ -101,20 +116,20 @@ abbrev L : tie.After-block Inv-loop μ-loop → tie.At-loop Inv-loop μ-loop
 L a = a .before .before .before .before
 
 size-is : (a : tie.After-block Inv-loop μ-loop) → a .before .before .layer-size .result ≡ layerSize (sh (S (L a))) (k (L a))
-size-is a = a .before .before .layer-size .ensures ∙ size-there (sh (S (L a))) (right (S (L a)) .shape) (k (L a)) (inside (I a) .1)
+size-is a = a .before .before .layer-size .ensures ∙ ap (sizing (sh (S (L a)))) (layer-is (L a)) ∙ size-there (sh (S (L a))) (right (S (L a)) .shape) (k (L a)) (inside (I a) .1)
 
 cells-are : (a : tie.After-block Inv-loop μ-loop) → a .before .plane-cells .result ≡ planeCells (sh (S (L a))) (k (L a))
-cells-are a = a .before .plane-cells .ensures ∙ cells-there (sh (S (L a))) (right (S (L a)) .shape) (k (L a)) (inside (I a) .1)
+cells-are a = a .before .plane-cells .ensures ∙ ap (cellsAt (sh (S (L a)))) (layer-is (L a)) ∙ cells-there (sh (S (L a))) (right (S (L a)) .shape) (k (L a)) (inside (I a) .1)
 
 block-is : (a : tie.After-block Inv-loop μ-loop) → a .block .result ≡ blockStart (sh (S (L a))) (k (L a))
-block-is a = a .block .ensures ∙ start-is (sh (S (L a))) (k (L a)) (L a .loop .start) (L a .loop .inv .2)
+block-is a = a .block .ensures ∙ ap (λ (j : ℕ). cond (eqb j 0) 0 (L a .loop .start)) (layer-is (L a)) ∙ start-is (sh (S (L a))) (k (L a)) (L a .loop .start) (L a .loop .inv .2)
 
 room : (a : tie.After-block Inv-loop μ-loop) → a .block .result + cellPoints * a .before .plane-cells .result ≤ wordsMost
 room a =
     let s = S (L a) in
     omega (arith, block-is a, cells-are a, block-room (sh s) (right s .shape) (k (L a)) (inside (I a) .1))
 
-narrow : (a : tie.After-block Inv-loop μ-loop) → a .before .plane-cells .result ≤ widthMost
+narrow : (a : tie.After-block Inv-loop μ-loop) → a .before .plane-cells .result ≤ planeCellsMost
 narrow a = let s = S (L a) in omega (arith, cells-are a, plane-most (sh s) (right s .shape) (k (L a)))
 
 abbrev A : tie.After-load-slot Inv-loop μ-loop → tie.After-block Inv-loop μ-loop
@@ -129,7 +144,7 @@ answer q =
     let l = L (A q) in
     let s = S l in
     q .load-slot .ensures .0
-    ∙ fine-same (now (s .args .bytes)) (planesOf (H s) (k l)) (plan s (k l)) (p l) (from-is (I (A q))) (size-is (A q)) (cells-are (A q))
+    ∙ fine-same (now (s .args .bytes)) (from-is (I (A q))) (size-is (A q)) (cells-are (A q)) (ap (planesOf (H s)) (layer-is l)) (ap (plan s) (layer-is l)) (place-is l)
     ∙ fine-slot (H s) (s .args .at) (now (s .args .bytes)) (plan s) (l .loop .t)
 
 left-are : (q : tie.After-load-slot Inv-loop μ-loop) → left q ≡ slotWords (now (S (L (A q)) .args .bytes)) (place (L (A q))) (layerSize (sh (S (L (A q)))) (k (L (A q)))) (planeCells (sh (S (L (A q)))) (k (L (A q)))) (planesOf (H (S (L (A q)))) (k (L (A q)))) (plan (S (L (A q))) (k (L (A q)))) (p (L (A q))) (L (A q) .loop .words) (blockStart (sh (S (L (A q)))) (k (L (A q))))
@@ -137,7 +152,10 @@ left-are q =
     let l = L (A q) in
     let s = S l in
     q .load-slot .ensures .1
-    ∙ words-same (now (s .args .bytes)) (planesOf (H s) (k l)) (plan s (k l)) (p l) (from-is (I (A q))) (size-is (A q)) (cells-are (A q)) (l .loop .words) (block-is (A q))
+    ∙ words-same (now (s .args .bytes)) (from-is (I (A q))) (size-is (A q)) (cells-are (A q)) (ap (planesOf (H s)) (layer-is l)) (ap (plan s) (layer-is l)) (place-is l) (l .loop .words) (block-is (A q))
+
+asked-is : (l : tie.At-loop Inv-loop μ-loop) → (let s = S l in let j = l .loop .t % l .before .layer-count .result in asked (planesOf (H s) (k l)) (plan s (k l)) (p l) ≡ asked (planesOf (H s) j) (plan s j) (placesMost - 1 - l .loop .t / l .before .layer-count .result))
+asked-is l = let s = S l in sym (λ i. asked (planesOf (H s) (layer-is l i)) (plan s (layer-is l i)) (place-is l i))
 
 bad-before : (l : tie.At-loop Inv-loop μ-loop) (u : ℕ) → u < l .loop .t → badSlot (H (S l)) (S l .args .at) (now (S l .args .bytes)) (plan (S l)) u ≡ false
 bad-before l = l .loop .inv .3
@@ -146,14 +164,11 @@ from-small : (c : tie.In-loop Inv-loop μ-loop) → c .before .loop .from ≤ S 
 from-small c = let s = S (c .before) in omega (arith, from-is c, cells-few (H s) (few s) (right s .shape) (k (c .before)) (p (c .before)))
 
 -- ---- the needs
-mul-layers : tie.Need-mul-layers Inv-loop μ-loop
-mul-layers c = omega (arith, shallow (c .before .before .before .before .before .before))
-
-add-layers : tie.Need-add-layers Inv-loop μ-loop
-add-layers c = omega (arith, shallow (c .before .before .before .before .before .before))
+layer-count-requires : tie.Need-layer-count-requires Inv-loop μ-loop
+layer-count-requires c κs = tt
 
 mul-slots : tie.Need-mul-slots Inv-loop μ-loop
-mul-slots c = omega (arith, shallow (c .before .before .before .before .before .before))
+mul-slots c = omega (arith, count c, shallow (c .before .before .before .before .before .before))
 
 loop-holds : tie.Need-loop-holds Inv-loop μ-loop
 loop-holds c = let s = c .before .before .before .before .before .before in (
@@ -165,13 +180,13 @@ loop-holds c = let s = c .before .before .before .before .before .before in (
 )
 
 div-p : tie.Need-div-p Inv-loop μ-loop
-div-p c = omega arith
+div-p c = omega (arith, count (c .before .before))
 
 sub-p : tie.Need-sub-p Inv-loop μ-loop
-sub-p c = inside c .0
+sub-p c = omega (arith, ap (λ (n : ℕ). c .before .loop .t / n) (count (c .before .before)), inside c .0)
 
 rem-k : tie.Need-rem-k Inv-loop μ-loop
-rem-k c = omega arith
+rem-k c = omega (arith, count (c .before .before))
 
 layer-size-requires : tie.Need-layer-size-requires Inv-loop μ-loop
 layer-size-requires c κs = tt
@@ -201,13 +216,13 @@ load-slot-requires c κs = let a = c .before in
     let s = S l in (
       (
         omega arith,
-        few s (k l) (inside (I a) .1),
+        omega (arith, ap (planesOf (H s)) (layer-is l), few s (k l) (inside (I a) .1)),
         omega (arith, size-is a, cells-are a, plane-room (sh s) (k l)),
         omega (arith, narrow a),
         omega (arith, room a, words l .long-is),
       ),
       (
-        λ e. omega (arith, from-is (I a), cells-are a, bare-before (s .args .header) (k l) (p l), s .pre .1 (k l) (p l) (inside (I a) .1) e),
+        λ e. omega (arith, from-is (I a), cells-are a, bare-before (s .args .header) (k l) (p l), s .pre .1 (k l) (p l) (inside (I a) .1) (asked-is l ∙ e)),
         λ i. omega (arith, small l i),
       ),
     )
@@ -226,7 +241,7 @@ returns c = let q = c .before .before .before in
     let l = L (A q) in
     let s = S l in
     let bad : badSlot (H s) (s .args .at) (now (s .args .bytes)) (plan s) (l .loop .t) ≡ true = not-false _ (sym (answer q) ∙ not-true (q .load-slot .result) (c .if1 .taken)) in
-    (sym (bad-is (s .args .header) (s .args .at) (now (s .args .bytes)) (plan s) (l .loop .t) (I (A q) .loop-test .taken) bad (bad-before l)), λ e. absurd (let z : _≡_ {A = ℕ} 0 1 = cc in let o : ⊥ = omega arith in o))
+    (ap Bad (layer-is l) ∙ sym (bad-is (s .args .header) (s .args .at) (now (s .args .bytes)) (plan s) (l .loop .t) (low (I (A q))) bad (bad-before l)), λ e. absurd (let z : _≡_ {A = ℕ} 0 1 = cc in let o : ⊥ = omega arith in o))
 
 mul-behind : tie.Need-mul-behind Inv-loop μ-loop
 mul-behind c = omega (arith, a-layer (I (A (c .before .before .before))))
@@ -246,7 +261,7 @@ add-start : tie.Need-add-start Inv-loop μ-loop
 add-start c = omega (arith, room (A (c .before .before .before .before)))
 
 add-t : tie.Need-add-t Inv-loop μ-loop
-add-t c = let i = I (A (c .before .before .before .before)) in omega (arith, i .loop-test .taken, shallow (S (i .before)))
+add-t c = let i = I (A (c .before .before .before .before)) in omega (arith, low i, shallow (S (i .before)))
 
 loop-less : tie.Need-loop-less Inv-loop μ-loop
 loop-less c = let i = I (A (c .before .before .before .before)) in omega (arith, i .loop-test .taken)
@@ -263,11 +278,11 @@ loop-again c = let q = c .before .before .before .before in
       omega (arith, I a .loop-test .taken),
       λ m.
           c .behind .ensures
-          ∙ ap₂ (λ (x y : ℕ). x + cond (ltb (p l) (planesOf (H s) (k l))) (cellBytes * y) 0) (from-is (I a)) (cells-are a)
-          ∙ from-next (H s) t (s .args .at) m,
+          ∙ (λ i. from-is (I a) i + cond (ltb (place-is l i) (planesOf (H s) (layer-is l i))) (cellBytes * cells-are a i) 0)
+          ∙ from-next (H s) t (s .args .at) (omega (arith, m, count (l .before))),
       λ m. start-next (sh s) t _ (ap₂ (λ (x y : ℕ). x + cellPoints * y) (block-is a) (cells-are a)) m,
       λ u m. elim (ℕ-discrete u t) [ yes e ↦ ap (badSlot (H s) (s .args .at) bs (plan s)) e ∙ good | no e ↦ bad-before l u (omega arith) ],
-      partly-next (H s) (s .args .at) bs (plan s) (right s .shape) t (I a .loop-test .taken) (l .loop .words) (words l) (left q)
+      partly-next (H s) (s .args .at) bs (plan s) (right s .shape) t (low (I a)) (l .loop .words) (words l) (left q)
           (fine-slot (H s) (s .args .at) bs (plan s) t ∙ sym (answer q) ∙ found)
           (left-are q),
     )
@@ -279,7 +294,7 @@ returns-2 : tie.Need-returns-2 Inv-loop μ-loop
 returns-2 c = let l = c .before in
     let s = S l in
     let bs = now (s .args .bytes) in
-    let e : l .loop .t ≡ placesMost * K s = omega arith in (
+    let e : l .loop .t ≡ placesMost * K s = omega (arith, c .loop-test .left, l .loop .inv .0, count (l .before)) in (
       sym (none-is (s .args .header) (s .args .at) bs (plan s) (λ u m. bad-before l u (omega arith))),
       λ _. bare-read (s .args .header) (s .args .at) bs (plan s) (l .loop .words)
           (partly-all (H s) (s .args .at) bs (plan s) (l .loop .words) (subst (λ (t : ℕ). Partly (H s) (s .args .at) bs (plan s) t (l .loop .words)) e (words l))),
@@ -291,8 +306,7 @@ load-body-spec =
     (tie.spec
     Inv-loop
     μ-loop
-    mul-layers
-    add-layers
+    layer-count-requires
     mul-slots
     loop-holds
     div-p

@@ -17,13 +17,18 @@ use Rattle.card.proofs.loading.load_slot.Tie as tie
 both : {A B : Type 0} {a a′ : A} {b b′ : B} → (a ≡ a′) × (b ≡ b′) → (a′ ≡ a) × (b′ ≡ b)
 both e = (sym (e .0), sym (e .1))
 
-is-asked : (c : tie.Else2) → asked (c .before .before .before .before .args .count) (c .before .before .before .before .args .want) (c .before .before .before .before .args .p) ≡ true
-is-asked c = let s = c .before .before .before .before in asked-yes (s .args .count) (s .args .want) (s .args .p) (omega arith) (omega arith)
+abbrev S : tie.Else2 → tie.Start
+S c = c .before .before .before .before
 
-fine-is : (c : tie.After-is-fine) (r : Bool) → c .is-fine .result ≡ r → fineAt (now (c .before .before .before .before .before .args .bytes)) (c .before .before .before .before .before .args .from) (c .before .before .before .before .before .args .n) (c .before .before .before .before .before .args .cells) (eqb (suc (c .before .before .before .before .before .args .p)) (c .before .before .before .before .before .args .count)) ≡ r
-fine-is c r e = let s = c .before .before .before .before .before in
-    ap (λ (q : ℕ). fineAt (now (s .args .bytes)) (s .args .from) (s .args .n) (s .args .cells) (eqb q (s .args .count))) (sym (add-one (s .args .p)))
-    ∙ sym (c .is-fine .ensures) ∙ e
+is-asked : (c : tie.Else2) → asked (S c .args .count) (S c .args .want) (S c .args .p) ≡ true
+is-asked c = asked-yes (S c .args .count) (S c .args .want) (S c .args .p) (omega arith) (omega arith)
+
+-- whether the plane is fine as the q-th of its layer, whose last is the top one
+abbrev fine : tie.Start → ℕ → Bool
+fine s q = fineAt (now (s .args .bytes)) (s .args .from) (s .args .n) (s .args .cells) (eqb q (s .args .count))
+
+fine-is : (c : tie.After-is-fine) (r : Bool) → c .is-fine .result ≡ r → fine (S (c .before)) (suc (S (c .before) .args .p)) ≡ r
+fine-is c r e = ap (fine (S (c .before))) (sym (add-one (S (c .before) .args .p))) ∙ sym (c .is-fine .ensures) ∙ e
 
 returns : tie.Need-returns
 returns c = let s = c .before .before .before in

@@ -9,7 +9,7 @@ use denote.Ref.{now}
 use borrow.Author.Needs.{needs}
 use Rattle.layers.specs.Limits.{levelsMost}
 use Rattle.layers.specs.Sheet.{layers}
-use Rattle.layers.proofs.Accepting.{accepted-yes}
+use Rattle.layers.proofs.Accepting.{accepted-yes, count-is}
 use Rattle.header.specs.Header.{cellPoints, planeCells}
 use Rattle.header.proofs.Cells.{cells-there}
 use Rattle.card.specs.Words.{wordsMost, blockStart, flatPlace}
@@ -28,27 +28,30 @@ abbrev μ-loop : tie.MeasureT-loop
 abbrev S : tie.At-loop Inv-loop μ-loop → tie.Start Inv-loop μ-loop
 S l = l .before .before .before .before
 
+count : (l : tie.At-loop Inv-loop μ-loop) → l .before .layer-count .result ≡ layers (S l .args .shape)
+count l = l .before .layer-count .ensures ∙ count-is (S l .args .shape) (S l .pre .0 .0)
+
+below : (i : tie.In-loop Inv-loop μ-loop) → i .before .loop .k < layers (S (i .before) .args .shape)
+below i = omega (arith, i .loop-test .taken, count (i .before))
+
 shallow : (s : tie.Start Inv-loop μ-loop) → s .args .shape .levels ≤ levelsMost
 shallow s = accepted-yes (s .args .shape) (s .pre .0 .0) .shallow
 
 -- layer k's cells, and the words up to its end
 cells-is : (a : tie.After-plane-cells Inv-loop μ-loop) → a .plane-cells .result ≡ planeCells (S (a .before .before) .args .shape) (a .before .before .loop .k)
 cells-is a = let l = a .before .before in
-    a .plane-cells .ensures ∙ cells-there (S l .args .shape) (S l .pre .0 .0) (l .loop .k) (omega arith)
+    a .plane-cells .ensures ∙ cells-there (S l .args .shape) (S l .pre .0 .0) (l .loop .k) (below (a .before))
 
 words-room : (a : tie.After-plane-cells Inv-loop μ-loop) → a .before .before .loop .start + cellPoints * a .plane-cells .result ≤ wordsMost
 words-room a = let l = a .before .before in
-    omega (arith, cells-is a, l .loop .inv .1, block-room (S l .args .shape) (S l .pre .0 .0) (l .loop .k) (omega arith))
+    omega (arith, cells-is a, l .loop .inv .1, block-room (S l .args .shape) (S l .pre .0 .0) (l .loop .k) (below (a .before)))
 
 same : (l : tie.At-loop Inv-loop μ-loop) → length (l .loop .out) ≡ length (now (S l .args .out))
 same l = let s = S l in
     ap length (l .loop .inv .2 .stands) ∙ length-sets (now (s .args .out)) (s .args .at) (flatPlace (s .args .shape) (s .args .t3) (now (s .args .words)) (s .args .p) (l .loop .k))
 
-mul-layers : tie.Need-mul-layers Inv-loop μ-loop
-mul-layers c = omega (arith, shallow (c .before .before .before))
-
-add-layers : tie.Need-add-layers Inv-loop μ-loop
-add-layers c = omega (arith, shallow (c .before .before .before))
+layer-count-requires : tie.Need-layer-count-requires Inv-loop μ-loop
+layer-count-requires c κs = search needs
 
 loop-holds : tie.Need-loop-holds Inv-loop μ-loop
 loop-holds c = let s = c .before .before .before in
@@ -58,16 +61,16 @@ plane-cells-requires : tie.Need-plane-cells-requires Inv-loop μ-loop
 plane-cells-requires c κs = search needs
 
 mul-if1 : tie.Need-mul-if1 Inv-loop μ-loop
-mul-if1 c = omega (arith, shallow (S (c .before .before)))
+mul-if1 c = omega (arith, below (c .before), shallow (S (c .before .before)))
 
 array-read-if1 : tie.Need-array-read-if1 Inv-loop μ-loop
-array-read-if1 c = omega (arith, shallow (S (c .before .before)))
+array-read-if1 c = omega (arith, below (c .before), shallow (S (c .before .before)))
 
 put-plane-requires : tie.Need-put-plane-requires Inv-loop μ-loop
 put-plane-requires c κs = let a = c .before .before in
     let l = a .before .before in
     let s = S l in
-    let inside : l .loop .k < layers (s .args .shape) = omega arith in
+    let inside = below (a .before) in
     let has : s .args .p < getD (s .args .t3) (l .loop .k) 0 = omega (arith, c .before .if1 .taken) in (
       s .pre .0 .1,
       omega (arith, words-room a),
@@ -82,7 +85,7 @@ add-start : tie.Need-add-start Inv-loop μ-loop
 add-start c = omega (arith, words-room (c .before))
 
 add-k : tie.Need-add-k Inv-loop μ-loop
-add-k c = omega (arith, shallow (S (c .before .before .before)))
+add-k c = omega (arith, below (c .before .before), shallow (S (c .before .before .before)))
 
 loop-less : tie.Need-loop-less Inv-loop μ-loop
 loop-less c = omega arith
@@ -110,7 +113,7 @@ same-length c = same (c .before)
 returns : tie.Need-returns Inv-loop μ-loop
 returns c = let l = c .before in
     let s = S l in
-    let all = laid-all (s .args .shape) (s .args .t3) (now (s .args .words)) (s .args .p) (now (s .args .out)) (s .args .at) (l .loop .k) (l .loop .to) (l .loop .out) (omega arith) (l .loop .inv .2) in
+    let all = laid-all (s .args .shape) (s .args .t3) (now (s .args .words)) (s .args .p) (now (s .args .out)) (s .args .at) (l .loop .k) (l .loop .to) (l .loop .out) (omega (arith, count l)) (l .loop .inv .2) in
     (all .ends, all .stands)
 
 pub put-place-spec : {M : Type 1} → statement M
@@ -119,8 +122,7 @@ put-place-spec =
     (tie.spec
     Inv-loop
     μ-loop
-    mul-layers
-    add-layers
+    layer-count-requires
     loop-holds
     plane-cells-requires
     mul-if1

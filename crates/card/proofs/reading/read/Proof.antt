@@ -3,9 +3,10 @@ use mathlib.Core.Path.{ap, _∙_}
 use borrow.Author.Needs.{needs}
 use denote.Ref.{now}
 use Rattle.card.specs.declared.Reached.{Reached}
-use Rattle.card.specs.Reading.{told}
+use Rattle.card.specs.Reading.{told, readOpened, reading}
+use Rattle.header.specs.Opening.{Opening}
 use Rattle.header.proofs.Refusing.{refusing, header-right}
-use Rattle.card.proofs.ReadCall.{read-refused, header-here, read-on}
+use Rattle.card.proofs.ReadCall.{stops, opened-yes, header-here}
 use Rattle.card.proofs.reading.read.Statement.{statement}
 use Rattle.card.proofs.reading.read.Tie as tie
 
@@ -38,20 +39,23 @@ same-length-2 : tie.Need-same-length-2
 same-length-2 c = search needs
 
 returns : tie.Need-returns
+unfolding reading
 returns c =
     let r = c .before .before in
     let t = r .before .before .before .before in
     let o = L t in
     let s = S o in
     r .read-opened .ensures
-    ∙ read-on (now (s .args .bytes)) (o .«open» .result) (o .«open» .ensures) (t .enum-told .given .1) (now (s .args .coefficients)) (now (s .args .values)) (s .args .plan)
+    ∙ opened-yes (now (s .args .bytes)) (o .«open» .result) (o .«open» .ensures) (t .enum-told .given .1) (now (s .args .coefficients)) (now (s .args .values))
+    (λ h long. readOpened (now (s .args .coefficients)) (now (s .args .values)) (now (s .args .bytes)) h long (s .args .plan))
 
 returns-2 : tie.Need-returns-2
+unfolding reading
 returns-2 c =
     let o = c .before .before in
     let s = S o in
     ap (λ (r : Reached). told r (now (s .args .coefficients)) (now (s .args .values))) (c .refused .ensures)
-    ∙ read-refused (now (s .args .bytes)) (o .«open» .result) (o .«open» .ensures) (now (s .args .coefficients)) (now (s .args .values)) (s .args .plan)
+    ∙ stops (now (s .args .coefficients)) (now (s .args .values)) (o .«open» .result .refusal) _ (ap (λ (x : Opening). x .refused) (o .«open» .ensures)) _
     (refusing (o .«open» .result .refusal) (c .before .match .keys2))
 
 pub read-spec : {M : Type 1} → statement M

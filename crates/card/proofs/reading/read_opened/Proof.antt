@@ -1,77 +1,47 @@
--- The lengths, then the plan against the whole planes; a plan within them loads planes that are in the bytes, so they can be read.
+-- By what the check answers: a refusal is passed on, and a plan that was checked loads planes that are in the bytes, so they can be read.
 use mathlib.Core.Bool.{true}
+use mathlib.Core.List.{List}
 use mathlib.Core.Path.{_≡_, refl, ap, _∙_}
-use native.Mathlib.Omega.{arith}
-use Prim.Native.Nat.{ℕ, _-_}
+use Prim.Native.Nat.{ℕ}
 use borrow.Author.Needs.{needs}
 use denote.Ref.{now}
-use lib.ListN.{length}
+use lib.IntN.{ℤ}
 use Rattle.layers.specs.Limits.{layersMost}
-use Rattle.layers.proofs.Accepting.{accepted-yes}
-use Rattle.header.specs.declared.Plan.{Plan}
-use Rattle.header.specs.Refusals.{refusal}
 use Rattle.header.specs.Plan.{loads, firstOver}
-use Rattle.header.specs.CardOrder.{wholePlan}
-use Rattle.header.proofs.Over.{over-le}
-use Rattle.header.proofs.Rightness.{right-yes}
+use Rattle.header.specs.Refusals.{detailsOf}
+use Rattle.header.proofs.Refusing.{refusing}
 use Rattle.card.specs.declared.Reached.{Reached}
-use Rattle.card.specs.Reading.{told, no, goodLengths}
-use Rattle.card.proofs.ReadCall.{whole-is, plan-within, all-there, lengths-bad, lengths-good, over-bad, over-good}
+use Rattle.card.specs.Reading.{wholeOf, goodLengths, firstRefusal, readOpened, told}
+use Rattle.card.proofs.ReadCall.{plan-within, all-there, checked-is, checked-yes, goes-on, stops}
 use Rattle.card.proofs.reading.read_opened.Statement.{statement}
 use Rattle.card.proofs.reading.read_opened.Tie as tie
 
-abbrev S : tie.After-shape → tie.Start
-S c = c .before .before
+abbrev S : tie.After-first-refusal → tie.Start
+S c = c .before .before .before .before .before
 
-abbrev E : tie.After-first-over → tie.Else2
-E c = c .before .before .before .before
+abbrev L : tie.After-enum-told → tie.After-first-refusal
+L t = t .before .before
 
-abbrev T : tie.After-first-over → tie.Start
-T c = S (E c .before .before)
+abbrev Qs : tie.Start → List ℤ
+Qs s = now (s .args .coefficients)
 
--- the place that the search answers, and the lengths
-abbrev place : tie.Start → ℕ
-place s = firstOver (loads (wholePlan (s .args .header) (length (now (s .args .bytes)) - s .args .at))) (loads (s .args .plan))
+abbrev Vs : tie.Start → List ℤ
+Vs s = now (s .args .values)
 
-place-is : (c : tie.After-first-over) → c .first-over .result ≡ place (T c)
-place-is c =
-    let s = T c in
-    c .first-over .ensures
-    ∙ ap (λ (w : Plan). firstOver (loads w) (loads (s .args .plan)))
-    (c .before .before .before .whole-planes .ensures ∙ whole-is (s .args .header) (s .pre .0) (length (now (s .args .bytes)) - s .args .at))
+abbrev Bs : tie.Start → List ℕ
+Bs s = now (s .args .bytes)
 
-good : (c : tie.After-first-over) → goodLengths (now (T c .args .coefficients)) (now (T c .args .values)) (T c .args .header) ≡ true
-good c =
-    let s = T c in
-    lengths-good (now (s .args .coefficients)) (now (s .args .values)) (s .args .header) (E c .before .if1 .left) (E c .if2 .left)
+-- the answer, and what it says where nothing is refused
+answer : (c : tie.After-first-refusal) → (let s = S c in detailsOf (c .first-refusal .result) ≡ firstRefusal (Qs s) (Vs s) (s .args .header) (wholeOf (Bs s) (s .args .header) (s .args .at)) (s .args .plan))
+answer c =
+    let s = S c in
+    checked-is (Qs s) (Vs s) (Bs s) (s .args .header) (s .args .at) (s .args .plan) (s .pre .0) _ (c .before .before .before .whole-planes .ensures) (c .first-refusal .result) (c .first-refusal .ensures)
 
-within : (c : tie.Else3) → place (T (c .before)) ≡ layersMost
-within c =
-    let s = T (c .before) in
-    omega (arith, place-is (c .before), c .if3 .left, over-le (loads (wholePlan (s .args .header) (length (now (s .args .bytes)) - s .args .at))) (loads (s .args .plan)))
-
-mul-points : tie.Need-mul-points
-mul-points c = omega (arith, accepted-yes (S c .args .header .shape) (right-yes (S c .args .header) (S c .pre .0) .shape) .small)
-
-refused-requires : tie.Need-refused-requires
-refused-requires c κs = search needs
-
-returns : tie.Need-returns
-returns c =
-    let t = c .before in
-    let s = S (t .before) in
-    ap (λ (r : Reached). told r (now (s .args .coefficients)) (now (s .args .values))) (c .refused .ensures)
-    ∙ lengths-bad (now (s .args .coefficients)) (now (s .args .values)) (now (s .args .bytes)) (s .args .header) (s .args .at) (s .args .plan) (λ q _. t .if1 .taken q)
-
-refused-requires-2 : tie.Need-refused-requires-2
-refused-requires-2 c κs = search needs
-
-returns-2 : tie.Need-returns-2
-returns-2 c =
-    let t = c .before in
-    let s = S (t .before .before) in
-    ap (λ (r : Reached). told r (now (s .args .coefficients)) (now (s .args .values))) (c .refused2 .ensures)
-    ∙ lengths-bad (now (s .args .coefficients)) (now (s .args .values)) (now (s .args .bytes)) (s .args .header) (s .args .at) (s .args .plan) (λ _ v. t .if2 .taken v)
+passed : (t : tie.After-enum-told) → (let s = S (L t) in (goodLengths (Qs s) (Vs s) (s .args .header) ≡ true) × (firstOver (loads (wholeOf (Bs s) (s .args .header) (s .args .at))) (loads (s .args .plan)) ≡ layersMost))
+passed t =
+    let c = L t in
+    let s = S c in
+    checked-yes (Qs s) (Vs s) (Bs s) (s .args .header) (s .args .at) (s .args .plan) (s .pre .0) _ (c .before .before .before .whole-planes .ensures) (c .first-refusal .result) (c .first-refusal .ensures) (t .enum-told .given .1)
 
 sub-whole-planes : tie.Need-sub-whole-planes
 sub-whole-planes c = search needs
@@ -79,37 +49,30 @@ sub-whole-planes c = search needs
 whole-planes-requires : tie.Need-whole-planes-requires
 whole-planes-requires c κs = search needs
 
-first-over-requires : tie.Need-first-over-requires
-first-over-requires c κs = search needs
+first-refusal-requires : tie.Need-first-refusal-requires
+first-refusal-requires c κs = search needs
 
-refused-requires-3 : tie.Need-refused-requires-3
-refused-requires-3 c κs = search needs
-
-returns-3 : tie.Need-returns-3
-returns-3 c =
-    let f = c .before .before in
-    let s = T f in
-    let qs = now (s .args .coefficients) in
-    let vs = now (s .args .values) in
-    ap (λ (r : Reached). told r qs vs) (c .refused3 .ensures)
-    ∙ ap (λ (p : ℕ). no qs vs (refusal 9 p 0)) (place-is f)
-    ∙ over-bad qs vs (now (s .args .bytes)) (s .args .header) (s .args .at) (s .args .plan) (good f) (omega (arith, place-is f, c .before .if3 .taken))
+enum-told : tie.Need-enum-told
+enum-told c = search needs
 
 slice-aggregate-read-planes : tie.Need-slice-aggregate-read-planes
 slice-aggregate-read-planes c = search needs
 
 read-planes-requires : tie.Need-read-planes-requires
 read-planes-requires c κs =
-    let e = c .before .before .before in
-    let s = T (e .before) in
+    let t = c .before .before .before in
+    let s = S (L t) in
     let h = s .args .header in
-    let bs = now (s .args .bytes) in (
+    let within = passed t .1 in (
       (s .pre .0, s .pre .1, refl),
       (
-        (good (e .before), plan-within h (s .pre .0) (s .args .at) bs (s .args .plan) (s .pre .1) (within e)),
-        all-there h (s .pre .0) (s .args .at) bs (s .args .plan) (s .pre .1) (within e),
+        (passed t .0, plan-within h (s .pre .0) (s .args .at) (Bs s) (s .args .plan) (s .pre .1) within),
+        all-there h (s .pre .0) (s .args .at) (Bs s) (s .args .plan) (s .pre .1) within,
       ),
     )
+
+refused-requires : tie.Need-refused-requires
+refused-requires c κs = search needs
 
 same-length : tie.Need-same-length
 same-length c = search needs
@@ -117,30 +80,42 @@ same-length c = search needs
 same-length-2 : tie.Need-same-length-2
 same-length-2 c = search needs
 
-returns-4 : tie.Need-returns-4
-returns-4 c =
-    let d = c .before .before .before in
-    let e = d .before .before .before .before in
-    let s = T (e .before) in
-    d .read-planes .ensures
-    ∙ over-good (now (s .args .coefficients)) (now (s .args .values)) (now (s .args .bytes)) (s .args .header) (s .args .at) (s .args .plan) (good (e .before)) (within e)
+returns : tie.Need-returns
+unfolding readOpened
+returns c =
+    let r = c .before .before .before in
+    let t = r .before .before .before .before in
+    let s = S (L t) in
+    r .read-planes .ensures ∙ goes-on (Qs s) (Vs s) (L t .first-refusal .result) _ (answer (L t)) _ (t .enum-told .given .1)
+
+same-length-3 : tie.Need-same-length-3
+same-length-3 c = search needs
+
+same-length-4 : tie.Need-same-length-4
+same-length-4 c = search needs
+
+returns-2 : tie.Need-returns-2
+unfolding readOpened
+returns-2 c =
+    let k = c .before .before in
+    let s = S k in
+    ap (λ (r : Reached). told r (Qs s) (Vs s)) (c .refused .ensures)
+    ∙ stops (Qs s) (Vs s) (k .first-refusal .result) _ (answer k) _ (refusing (k .first-refusal .result) (c .before .match .keys2))
 
 pub read-opened-spec : {M : Type 1} → statement M
 read-opened-spec =
     tie.close
     (tie.spec
-    mul-points
-    refused-requires
-    returns
-    refused-requires-2
-    returns-2
     sub-whole-planes
     whole-planes-requires
-    first-over-requires
-    refused-requires-3
-    returns-3
+    first-refusal-requires
+    enum-told
     slice-aggregate-read-planes
     read-planes-requires
+    refused-requires
     same-length
     same-length-2
-    returns-4)
+    returns
+    same-length-3
+    same-length-4
+    returns-2)

@@ -4,11 +4,12 @@ use native.Mathlib.Omega.{arith}
 use borrow.Author.Needs.{needs}
 use denote.Ref.{now}
 use Rattle.header.specs.declared.Plan.{Plan}
+use Rattle.header.specs.Opening.{Opening}
 use Rattle.header.specs.CardOrder.{wholePlan}
 use Rattle.card.specs.declared.Reached.{Reached}
-use Rattle.card.specs.Reading.{told, readOpened}
+use Rattle.card.specs.Reading.{told, wholeOf, readOpened, showing}
 use Rattle.header.proofs.Refusing.{refusing, header-right}
-use Rattle.card.proofs.ReadCall.{whole-is, show-refused, header-here, show-on}
+use Rattle.card.proofs.ReadCall.{whole-is, stops, opened-yes, header-here}
 use Rattle.card.proofs.reading.show.Statement.{statement}
 use Rattle.card.proofs.reading.show.Tie as tie
 
@@ -50,6 +51,7 @@ same-length-2 : tie.Need-same-length-2
 same-length-2 c = search needs
 
 returns : tie.Need-returns
+unfolding showing
 returns c =
     let r = c .before .before in
     let w = r .before .before .before in
@@ -62,14 +64,16 @@ returns c =
     r .read-opened .ensures
     ∙ ap (λ (p : Plan). readOpened (now (s .args .coefficients)) (now (s .args .values)) bs h at p)
     (w .whole-planes .ensures ∙ whole-is h (header-right bs (o .«open» .result) (o .«open» .ensures) (t .enum-told .given .1)) _ ∙ ap (wholePlan h) (omega arith))
-    ∙ show-on bs (o .«open» .result) (o .«open» .ensures) (t .enum-told .given .1) (now (s .args .coefficients)) (now (s .args .values))
+    ∙ opened-yes bs (o .«open» .result) (o .«open» .ensures) (t .enum-told .given .1) (now (s .args .coefficients)) (now (s .args .values))
+    (λ h long. readOpened (now (s .args .coefficients)) (now (s .args .values)) bs h long (wholeOf bs h long))
 
 returns-2 : tie.Need-returns-2
+unfolding showing
 returns-2 c =
     let o = c .before .before in
     let s = S o in
     ap (λ (r : Reached). told r (now (s .args .coefficients)) (now (s .args .values))) (c .refused .ensures)
-    ∙ show-refused (now (s .args .bytes)) (o .«open» .result) (o .«open» .ensures) (now (s .args .coefficients)) (now (s .args .values))
+    ∙ stops (now (s .args .coefficients)) (now (s .args .values)) (o .«open» .result .refusal) _ (ap (λ (x : Opening). x .refused) (o .«open» .ensures)) _
     (refusing (o .«open» .result .refusal) (c .before .match .keys2))
 
 pub show-spec : {M : Type 1} → statement M

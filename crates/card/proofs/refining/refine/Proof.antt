@@ -4,9 +4,10 @@ use borrow.Author.Needs.{needs}
 use denote.Ref.{now}
 use Rattle.card.specs.declared.Reached.{Reached}
 use Rattle.card.specs.Reading.{told}
+use Rattle.card.specs.Refining.{refineOpened, refining}
+use Rattle.header.specs.Opening.{Opening}
 use Rattle.header.proofs.Refusing.{refusing, header-right}
-use Rattle.card.proofs.ReadCall.{header-here}
-use Rattle.card.proofs.RefineCall.{refine-refused, refine-on}
+use Rattle.card.proofs.ReadCall.{stops, opened-yes, header-here}
 use Rattle.card.proofs.refining.refine.Statement.{statement}
 use Rattle.card.proofs.refining.refine.Tie as tie
 
@@ -39,20 +40,23 @@ same-length-2 : tie.Need-same-length-2
 same-length-2 c = search needs
 
 returns : tie.Need-returns
+unfolding refining
 returns c =
     let r = c .before .before in
     let t = r .before .before .before .before in
     let o = L t in
     let s = S o in
     r .refine-opened .ensures
-    ∙ refine-on (now (s .args .bytes)) (o .«open» .result) (o .«open» .ensures) (now (s .args .coefficients)) (now (s .args .values)) (s .args .plan) (s .args .layer) (t .enum-told .given .1)
+    ∙ opened-yes (now (s .args .bytes)) (o .«open» .result) (o .«open» .ensures) (t .enum-told .given .1) (now (s .args .coefficients)) (now (s .args .values))
+    (λ h long. refineOpened (now (s .args .coefficients)) (now (s .args .values)) (now (s .args .bytes)) h long (s .args .plan) (s .args .layer))
 
 returns-2 : tie.Need-returns-2
+unfolding refining
 returns-2 c =
     let o = c .before .before in
     let s = S o in
     ap (λ (r : Reached). told r (now (s .args .coefficients)) (now (s .args .values))) (c .refused .ensures)
-    ∙ refine-refused (now (s .args .bytes)) (o .«open» .result) (o .«open» .ensures) (now (s .args .coefficients)) (now (s .args .values)) (s .args .plan) (s .args .layer)
+    ∙ stops (now (s .args .coefficients)) (now (s .args .values)) (o .«open» .result .refusal) _ (ap (λ (x : Opening). x .refused) (o .«open» .ensures)) _
     (refusing (o .«open» .result .refusal) (c .before .match .keys2))
 
 pub refine-spec : {M : Type 1} → statement M

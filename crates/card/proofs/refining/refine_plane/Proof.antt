@@ -43,8 +43,8 @@ before-at c =
     c .cells-before .ensures
     ∙ before-is h (s .pre .0 .0) (s .args .plan) k (s .pre .0 .2) (s .pre .1 .0 .1) _ (omega arith)
 
-from-is : (c : tie.After-layer-size) → (let s = S c in s .args .at + 32 * c .before .cells-before .result ≡ s .args .at + cellBytes * cellsBefore (s .args .header) (s .args .layer) (Next s))
-from-is c = let s = S c in ap (λ (n : ℕ). s .args .at + 32 * n) (before-at (c .before))
+from-is : (c : tie.After-layer-size) → (let s = S c in s .args .at + cellBytes * c .before .cells-before .result ≡ s .args .at + cellBytes * cellsBefore (s .args .header) (s .args .layer) (Next s))
+from-is c = let s = S c in ap (λ (n : ℕ). s .args .at + cellBytes * n) (before-at (c .before))
 
 cells : (c : tie.After-layer-size) → c .before .before .plane-cells .result ≡ planeCells (S c .args .header .shape) (S c .args .layer)
 cells c =
@@ -66,7 +66,7 @@ fine-here f =
     let k = s .args .layer in
     fine-is h (s .pre .0 .0) (s .args .plan) k (s .pre .0 .2) (s .pre .1 .0 .1) (s .args .at) (now (s .args .bytes)) (f .is-fine .result)
     _
-    (s .args .at + 32 * z .before .cells-before .result)
+    (s .args .at + cellBytes * z .before .cells-before .result)
     (z .layer-size .result)
     (z .before .before .plane-cells .result)
     (omega arith)
@@ -183,7 +183,7 @@ returns-2 c =
     _
     _
     _
-    (s .args .at + 32 * z .before .cells-before .result)
+    (s .args .at + cellBytes * z .before .cells-before .result)
     (omega arith)
     (from-is z)
     (d .add-digits .ensures)

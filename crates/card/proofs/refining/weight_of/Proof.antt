@@ -7,7 +7,7 @@ use lib.Pow.{shl-exact, pow-mono}
 use Rattle.integers.proofs.Diff.{lit, via, ⊟, _⊖_}
 use Rattle.integers.proofs.Order.{eq-by}
 use Rattle.integers.proofs.Machine.{bits, cast, sfits-by}
-use Rattle.card.proofs.Weights.{weight-is}
+use Rattle.digits.proofs.Places.{weight-is}
 use borrow.Author.Needs.{needs}
 use Rattle.card.proofs.refining.weight_of.Statement.{statement}
 use Rattle.card.proofs.refining.weight_of.Tie as tie

@@ -2,13 +2,14 @@
 use mathlib.Core.Path.{_≡_, _∙_, ap₂}
 use mathlib.Core.Bool.{true}
 use mathlib.Core.List.{List}
-use Prim.Native.Nat.{ℕ, _+_, _-_, _*_, _≤_}
+use Prim.Native.Nat.{ℕ, _+_, _-_, _*_, _<_, _≤_}
 use native.Mathlib.Omega.{arith}
 use denote.Ref.{now}
 use borrow.Author.Needs.{needs}
 use Rattle.layers.specs.declared.Shape.{Shape}
 use Rattle.layers.specs.Sheet.{accepted, layers, layerSize}
-use Rattle.layers.proofs.Accepting.{Sheet, accepted-yes}
+use Rattle.layers.proofs.Accepting.{Sheet, accepted-yes, count-is}
+use Rattle.header.specs.Header.{cellPoints}
 use Rattle.header.proofs.Cells.{size-there, cells-there}
 use Rattle.card.specs.Words.{blockStart, wordsMost, countOf}
 use Rattle.card.proofs.Blocks.{block-none, block-next, layer-room, block-room}
@@ -40,11 +41,14 @@ yes l = S l .pre .0
 sheet : (l : L) → Sheet (Sh l)
 sheet l = accepted-yes (Sh l) (yes l)
 
-mul-layers : tie.Need-mul-layers Inv-loop μ-loop
-mul-layers c = omega (arith, accepted-yes (c .before .before .args .shape) (c .before .before .pre .0) .shallow)
+count : (l : L) → l .before .layer-count .result ≡ layers (Sh l)
+count l = l .before .layer-count .ensures ∙ count-is (Sh l) (yes l)
 
-add-layers : tie.Need-add-layers Inv-loop μ-loop
-add-layers c = omega (arith, accepted-yes (c .before .before .args .shape) (c .before .before .pre .0) .shallow)
+below : (i : tie.In-loop Inv-loop μ-loop) → i .before .loop .k < layers (Sh (i .before))
+below i = omega (arith, i .loop-test .taken, count (i .before))
+
+layer-count-requires : tie.Need-layer-count-requires Inv-loop μ-loop
+layer-count-requires c κs = search needs
 
 loop-holds : tie.Need-loop-holds Inv-loop μ-loop
 loop-holds c =
@@ -57,23 +61,23 @@ layer-size-requires c κs = search needs
 size-is : (c : tie.After-layer-size Inv-loop μ-loop) → c .layer-size .result ≡ layerSize (Sh (c .before .before)) (c .before .before .loop .k)
 size-is c =
     let l = c .before .before in
-    c .layer-size .ensures ∙ size-there (Sh l) (yes l) (l .loop .k) (c .before .loop-test .taken)
+    c .layer-size .ensures ∙ size-there (Sh l) (yes l) (l .loop .k) (below (c .before))
 
 count-of-requires : tie.Need-count-of-requires Inv-loop μ-loop
 count-of-requires c κs =
     let l = c .before .before in
     let k = l .loop .k in
-    (omega (arith, size-is c, l .loop .inv .1, layer-room (Sh l) (yes l) k (c .before .loop-test .taken), S l .pre .1 .0), λ i h. S l .pre .1 .1 (l .loop .start + i))
+    (omega (arith, size-is c, l .loop .inv .1, layer-room (Sh l) (yes l) k (below (c .before)), S l .pre .1 .0), λ i h. S l .pre .1 .1 (l .loop .start + i))
 
 mul-planes : tie.Need-mul-planes Inv-loop μ-loop
 mul-planes c =
     let i = c .before .before in
-    omega (arith, i .loop-test .taken, sheet (i .before) .shallow)
+    omega (arith, below i, sheet (i .before) .shallow)
 
 array-write-planes : tie.Need-array-write-planes Inv-loop μ-loop
 array-write-planes c =
     let i = c .before .before in
-    omega (arith, i .loop-test .taken, sheet (i .before) .shallow, i .before .loop .inv .2 .long)
+    omega (arith, below i, sheet (i .before) .shallow, i .before .loop .inv .2 .long)
 
 plane-cells-requires : tie.Need-plane-cells-requires Inv-loop μ-loop
 plane-cells-requires c κs = search needs
@@ -88,11 +92,11 @@ In c = c .before .before .before
 abbrev Lp : C → L
 Lp c = In c .before
 
-cells : (c : C) → (let l = Lp c in (l .loop .start + 256 * c .plane-cells .result ≡ blockStart (Sh l) (l .loop .k + 1)) × (l .loop .start + 256 * c .plane-cells .result ≤ wordsMost))
+cells : (c : C) → (let l = Lp c in (l .loop .start + cellPoints * c .plane-cells .result ≡ blockStart (Sh l) (l .loop .k + 1)) × (l .loop .start + cellPoints * c .plane-cells .result ≤ wordsMost))
 cells c =
     let l = Lp c in
     let k = l .loop .k in
-    let h = In c .loop-test .taken in
+    let h = below (In c) in
     omega (arith, l .loop .inv .1, c .plane-cells .ensures, cells-there (Sh l) (yes l) k h, block-next (Sh l) k, block-room (Sh l) (yes l) k h)
 
 mul-start : tie.Need-mul-start Inv-loop μ-loop
@@ -102,7 +106,7 @@ add-start : tie.Need-add-start Inv-loop μ-loop
 add-start c = omega (arith, cells c .1)
 
 add-k : tie.Need-add-k Inv-loop μ-loop
-add-k c = omega (arith, In c .loop-test .taken, sheet (Lp c) .shallow)
+add-k c = omega (arith, below (In c), sheet (Lp c) .shallow)
 
 loop-less : tie.Need-loop-less Inv-loop μ-loop
 loop-less c = omega (arith, In c .loop-test .taken)
@@ -111,14 +115,14 @@ loop-again : tie.Need-loop-again Inv-loop μ-loop
 loop-again c =
     let l = Lp c in
     let k = l .loop .k in
-    let h = In c .loop-test .taken in
+    let h = below (In c) in
     let v = c .before .count-of .ensures ∙ ap₂ (countOf (Ws l)) (l .loop .inv .1) (size-is (c .before .before)) in
-    (omega (arith, h), cells c .0, counted-more (Sh l) (Ws l) k _ (l .loop .planes) h (omega (arith, h, sheet l .shallow)) v (l .loop .inv .2))
+    (omega (arith, In c .loop-test .taken), cells c .0, counted-more (Sh l) (Ws l) k _ (l .loop .planes) h (omega (arith, h, sheet l .shallow)) v (l .loop .inv .2))
 
 returns : tie.Need-returns Inv-loop μ-loop
 returns c =
     let l = c .before in
-    counted-all (Sh l) (Ws l) (l .loop .k) (l .loop .planes) (omega (arith, c .loop-test .left)) (l .loop .inv .2)
+    counted-all (Sh l) (Ws l) (l .loop .k) (l .loop .planes) (omega (arith, c .loop-test .left, count l)) (l .loop .inv .2)
 
 pub counts-spec : {M : Type 1} → statement M
 counts-spec =
@@ -126,8 +130,7 @@ counts-spec =
     (tie.spec
     Inv-loop
     μ-loop
-    mul-layers
-    add-layers
+    layer-count-requires
     loop-holds
     layer-size-requires
     count-of-requires

@@ -2,7 +2,7 @@
 use mathlib.Core.Path.{_≡_, _∙_, sym, ap}
 use mathlib.Core.Bool.{true}
 use mathlib.Core.List.{List}
-use Prim.Native.Nat.{ℕ, _+_, _-_, _*_, _≤_}
+use Prim.Native.Nat.{ℕ, _+_, _-_, _*_, _<_, _≤_}
 use native.Mathlib.Omega.{arith}
 use lib.IntN.{ℤ}
 use lib.Seq.{sets}
@@ -11,7 +11,8 @@ use borrow.Author.Needs.{needs}
 use Rattle.layers.specs.declared.Shape.{Shape}
 use Rattle.layers.specs.Lists.{at, tabulate}
 use Rattle.layers.specs.Sheet.{accepted, layers, layerSize, pointOf}
-use Rattle.layers.proofs.Accepting.{Sheet, accepted-yes}
+use Rattle.layers.proofs.Accepting.{Sheet, accepted-yes, count-is}
+use Rattle.header.specs.Header.{cellPoints}
 use Rattle.header.proofs.Cells.{cells-there}
 use Rattle.card.specs.Words.{wordOf, blockStart, wordsMost}
 use Rattle.card.proofs.Blocks.{block-none, block-next, layer-room, block-room}
@@ -43,11 +44,14 @@ yes l = S l .pre .0
 sheet : (l : L) → Sheet (Sh l)
 sheet l = accepted-yes (Sh l) (yes l)
 
-mul-layers : tie.Need-mul-layers Inv-loop μ-loop
-mul-layers c = omega (arith, accepted-yes (c .before .before .args .shape) (c .before .before .pre .0) .shallow)
+count : (l : L) → l .before .layer-count .result ≡ layers (Sh l)
+count l = l .before .layer-count .ensures ∙ count-is (Sh l) (yes l)
 
-add-layers : tie.Need-add-layers Inv-loop μ-loop
-add-layers c = omega (arith, accepted-yes (c .before .before .args .shape) (c .before .before .pre .0) .shallow)
+below : (i : tie.In-loop Inv-loop μ-loop) → i .before .loop .k < layers (Sh (i .before))
+below i = omega (arith, i .loop-test .taken, count (i .before))
+
+layer-count-requires : tie.Need-layer-count-requires Inv-loop μ-loop
+layer-count-requires c κs = search needs
 
 loop-holds : tie.Need-loop-holds Inv-loop μ-loop
 loop-holds c =
@@ -57,7 +61,7 @@ loop-holds c =
 gather-layer-requires : tie.Need-gather-layer-requires Inv-loop μ-loop
 gather-layer-requires c κs =
     let l = c .before .before in
-    ((yes l, c .before .loop-test .taken), (S l .pre .1 .0, omega (arith, layer-room (Sh l) (yes l) (l .loop .k) (c .before .loop-test .taken), l .loop .inv .1, l .loop .inv .2 .long)))
+    ((yes l, below (c .before)), (S l .pre .1 .0, omega (arith, layer-room (Sh l) (yes l) (l .loop .k) (below (c .before)), l .loop .inv .1, l .loop .inv .2 .long)))
 
 plane-cells-requires : tie.Need-plane-cells-requires Inv-loop μ-loop
 plane-cells-requires c κs = search needs
@@ -72,11 +76,11 @@ In c = c .before .before .before .before .before
 abbrev Lp : C → L
 Lp c = In c .before
 
-cells : (c : C) → (let l = Lp c in (l .loop .start + 256 * c .plane-cells .result ≡ blockStart (Sh l) (l .loop .k + 1)) × (l .loop .start + 256 * c .plane-cells .result ≤ wordsMost))
+cells : (c : C) → (let l = Lp c in (l .loop .start + cellPoints * c .plane-cells .result ≡ blockStart (Sh l) (l .loop .k + 1)) × (l .loop .start + cellPoints * c .plane-cells .result ≤ wordsMost))
 cells c =
     let l = Lp c in
     let k = l .loop .k in
-    let h = In c .loop-test .taken in
+    let h = below (In c) in
     omega (arith, l .loop .inv .1, c .plane-cells .ensures, cells-there (Sh l) (yes l) k h, block-next (Sh l) k, block-room (Sh l) (yes l) k h)
 
 mul-start : tie.Need-mul-start Inv-loop μ-loop
@@ -86,7 +90,7 @@ add-start : tie.Need-add-start Inv-loop μ-loop
 add-start c = omega (arith, cells c .1)
 
 add-k : tie.Need-add-k Inv-loop μ-loop
-add-k c = omega (arith, In c .loop-test .taken, sheet (Lp c) .shallow)
+add-k c = omega (arith, below (In c), sheet (Lp c) .shallow)
 
 loop-less : tie.Need-loop-less Inv-loop μ-loop
 loop-less c = omega (arith, In c .loop-test .taken)
@@ -95,9 +99,9 @@ loop-again : tie.Need-loop-again Inv-loop μ-loop
 loop-again c =
     let l = Lp c in
     let k = l .loop .k in
-    let h = In c .loop-test .taken in
+    let h = below (In c) in
     let e = c .before .before .before .gather-layer .ensures ∙ ap (λ (s : ℕ). sets (l .loop .words) s (tabulate (layerSize (Sh l) k) (λ i. wordOf (at (Qs l) (pointOf (Sh l) k i))))) (l .loop .inv .1) in
-    (omega (arith, h), cells c .0, gathered-more (Sh l) (Qs l) (yes l) k (l .loop .words) _ h (l .loop .inv .2) e)
+    (omega (arith, In c .loop-test .taken), cells c .0, gathered-more (Sh l) (Qs l) (yes l) k (l .loop .words) _ h (l .loop .inv .2) e)
 
 same-length : tie.Need-same-length Inv-loop μ-loop
 same-length c =
@@ -107,7 +111,7 @@ same-length c =
 returns : tie.Need-returns Inv-loop μ-loop
 returns c =
     let l = c .before in
-    gathered-all (Sh l) (Qs l) (l .loop .k) (l .loop .words) (omega (arith, c .loop-test .left)) (l .loop .inv .2)
+    gathered-all (Sh l) (Qs l) (l .loop .k) (l .loop .words) (omega (arith, c .loop-test .left, count l)) (l .loop .inv .2)
 
 pub gather-spec : {M : Type 1} → statement M
 gather-spec =
@@ -115,8 +119,7 @@ gather-spec =
     (tie.spec
     Inv-loop
     μ-loop
-    mul-layers
-    add-layers
+    layer-count-requires
     loop-holds
     gather-layer-requires
     plane-cells-requires

@@ -1,287 +1,151 @@
--- A walk over the sheet (`Gathering`): where a loop stands, the words of the layer's points before it are stored. What lies between one point of the grid and the next is not in the layer, so the walk passes over it.
-use mathlib.Core.Path.{_≡_, _∙_, ap, subst}
-use mathlib.Core.Bool.{true}
-use mathlib.Core.List.{List}
-use Prim.Native.Nat.{ℕ, _+_, _-_, _*_, _%_, _<_, _≤_, min, zero-le}
-use native.Mathlib.Nat.{mod-eq-of-lt, add-mod-right, mul-le-mul-right}
+-- The loop's invariant: the words of the lines passed are stored from `start` on, as those of the first points of the layer. A line more is a run behind them (`sets-then`), by the law of where a layer's points stand (`Lined`). The shape is not live in the loop: the invariant holds for any whose lines these are.
+use mathlib.Core.Path.{_≡_, _∙_, sym, ap}
+use Prim.Native.Nat.{ℕ, _+_, _-_, _*_, _^_, _<_, _≤_}
 use native.Mathlib.Omega.{arith}
-use lib.Arith.{digits-lt}
-use lib.IntN.{ℤ}
 use lib.ListN.{length}
-use mir.Facts.{toZ-ofZ}
+use lib.Seq.{sets, length-sets}
 use denote.Ref.{now}
-use borrow.Author.Needs.{sfits-of, needs}
+use borrow.Author.Needs.{needs}
 use Rattle.layers.specs.declared.Shape.{Shape}
-use Rattle.layers.specs.declared.Grid.{Grid}
-use Rattle.layers.specs.Limits.{pointsMost}
-use Rattle.layers.specs.Lists.{at}
-use Rattle.layers.specs.Sheet.{accepted, points, direction, spacing, inLayer}
-use Rattle.layers.specs.Loops.{gridOf}
-use Rattle.layers.proofs.Accepting.{Sheet, accepted-yes}
-use Rattle.layers.proofs.Fits.{spacing-some, spacing-small, rows-small, cols-small}
-use Rattle.layers.proofs.Grids.{Good, grid-good, out-top, out-rows, out-left, out-cols, inside}
-use Rattle.layers.proofs.Places.{place-in}
+use Rattle.layers.specs.declared.Lines.{Lines}
+use Rattle.layers.specs.Limits.{pointsMost, levelsMost}
+use Rattle.layers.specs.Lists.{at, tabulate}
+use Rattle.layers.specs.Sheet.{points, layerSize, pointOf}
+use Rattle.layers.proofs.Accepting.{accepted-yes}
+use Rattle.layers.proofs.LinePoints.{Lined, lined, line-room, line-on}
 use Rattle.card.specs.Words.{wordOf}
-use Rattle.card.proofs.Walk.{grid-here, in-at, Gathering, gathering-none, gathering-skip, gathering-more, gathering-same, gathering-all}
+use Rattle.card.proofs.Runs.{sets-none, sets-then}
 use Rattle.card.proofs.words.gather_layer.Statement.{statement}
 use Rattle.card.proofs.words.gather_layer.Tie as tie
 
-abbrev Inv-loop2 : tie.InvT-loop2
-Inv-loop2 coefficients shape layer words₀ start g i₀ row col₀ words i col =
-    (col % g .right ≡ g .col)
-    × ((l : List ℕ) → Gathering shape layer start (λ p. wordOf (at coefficients p)) l (row * shape .cols) words₀ i₀
-    → Gathering shape layer start (λ p. wordOf (at coefficients p)) l (row * shape .cols + min col (shape .cols)) words i)
-
-abbrev μ-loop2 : tie.MeasureT-loop2
-μ-loop2 coefficients shape layer words₀ start g i₀ row col₀ words i col = shape .cols - col
-
 abbrev Inv-loop : tie.InvT-loop
-Inv-loop coefficients shape layer words₀ start g i₀ row₀ words i row =
-    (row % g .down ≡ g .row) × Gathering shape layer start (λ p. wordOf (at coefficients p)) words₀ (min (row * shape .cols) (points shape)) words i
+Inv-loop coefficients layer words₀ start l r₀ r-end words r =
+    (r ≤ r-end) × ((sh : Shape) → Lined sh layer l → words ≡ sets words₀ start (tabulate (r * l .points) (λ i. wordOf (at coefficients (pointOf sh layer i)))))
 
 abbrev μ-loop : tie.MeasureT-loop
-μ-loop coefficients shape layer words₀ start g i₀ row₀ words i row = shape .rows - row
+μ-loop coefficients layer words₀ start l r₀ r-end words r = r-end - r
 
--- once the grid is there
-abbrev T : Type 0
-T = tie.After-layer-grid Inv-loop2 μ-loop2 Inv-loop μ-loop
+abbrev L : Type 0
+L = tie.At-loop Inv-loop μ-loop
 
-abbrev A : T → tie.Start Inv-loop2 μ-loop2 Inv-loop μ-loop
-A t = t .before .before
+abbrev S : L → tie.Start Inv-loop μ-loop
+S l = l .before .before .before
 
-abbrev I : Type 0
-I = tie.Then2 Inv-loop2 μ-loop2 Inv-loop μ-loop
+abbrev In : Type 0
+In = tie.In-loop Inv-loop μ-loop
 
-abbrev Sh : T → Shape
-Sh t = A t .args .shape
+abbrev Sh : L → Shape
+Sh l = S l .args .shape
 
-abbrev K : T → ℕ
-K t = A t .args .layer
+abbrev N : L → Lines
+N l = l .before .layer-lines .result
 
-abbrev G : T → Grid
-G t = t .layer-grid .result
+-- the word of the layer's point i, in a sheet of any shape
+abbrev F : L → Shape → ℕ → ℕ
+F l sh i = wordOf (at (now (S l .args .coefficients)) (pointOf sh (S l .args .layer) i))
 
-abbrev W : T → ℕ
-W t = Sh t .cols
+-- and of place j on the line whose turn it is
+abbrev G : L → ℕ → ℕ
+G l j = wordOf (at (now (S l .args .coefficients)) (N l .first + l .loop .r * N l .apart + j * N l .stride))
 
-abbrev Ws : T → List ℕ
-Ws t = now (A t .args .words)
+lines : (l : L) → Lined (Sh l) (S l .args .layer) (N l)
+lines l = lined (Sh l) (S l .args .layer) (N l) (S l .pre .0 .0) (S l .pre .0 .1) (l .before .layer-lines .ensures)
 
-abbrev Qs : T → List ℤ
-Qs t = now (A t .args .coefficients)
+same : (l : L) → length (l .loop .words) ≡ length (now (S l .args .words))
+same l = ap length (l .loop .inv .1 (Sh l) (lines l)) ∙ length-sets (now (S l .args .words)) (S l .args .start) (tabulate (l .loop .r * N l .points) (F l (Sh l)))
 
-abbrev F : T → ℕ → ℕ
-F t p = wordOf (at (Qs t) p)
+-- where a line starts
+near : (i : In) → (let l = i .before in N l .first + l .loop .r * N l .apart < points (Sh l) + 2 * 2 ^ levelsMost)
+near i = lines (i .before) .near (i .before .loop .r) (i .loop-test .taken)
 
-yes : (t : T) → accepted (Sh t) ≡ true
-yes t = A t .pre .0 .0
+small : (l : L) → points (Sh l) ≤ pointsMost
+small l = accepted-yes (Sh l) (S l .pre .0 .0) .small
 
-sheet : (t : T) → Sheet (Sh t)
-sheet t = accepted-yes (Sh t) (yes t)
-
-grid : (t : T) → G t ≡ gridOf (Sh t .levels) (K t)
-grid t = t .layer-grid .ensures ∙ grid-here (Sh t) (K t) (yes t) (A t .pre .0 .1)
-
-good : (t : T) → Good (G t)
-good t =
-    rw (grid t)
-    (grid-good (direction (K t)) (spacing (Sh t .levels) (K t)) (spacing-some (Sh t .levels) (K t)) (spacing-small (Sh t .levels) (K t) (sheet t .shallow)))
-
--- a row of the sheet ends in it
-row-in : (t : T) (r : ℕ) → r < Sh t .rows → r * W t + W t ≤ points (Sh t)
-row-in t r h = omega (arith, mul-le-mul-right (W t) h)
-
-layer-grid-requires : tie.Need-layer-grid-requires Inv-loop2 μ-loop2 Inv-loop μ-loop
-layer-grid-requires c κs = search needs
-
-loop-holds : tie.Need-loop-holds Inv-loop2 μ-loop2 Inv-loop μ-loop
-loop-holds c = (
-  mod-eq-of-lt (good c .row),
-  gathering-skip (min (G c .row * W c) (points (Sh c))) zero-le
-      (λ i _ h. out-top (Sh c) (K c) (G c) (grid c) (good c) (sheet c .wide) i (omega arith))
-      gathering-none,
-)
-
-loop2-holds : tie.Need-loop2-holds Inv-loop2 μ-loop2 Inv-loop μ-loop
-loop2-holds c =
-    let t = c .before .before .before in
-    let r = c .before .before .loop .row in (
-      mod-eq-of-lt (good t .col),
-      λ l w. gathering-skip (r * W t + min (G t .col) (W t)) (omega arith)
-          (λ i h k. out-left (Sh t) (K t) (G t) (grid t) (good t) (sheet t .wide) r i h k) w,
-    )
-
--- in the inner loop
-abbrev Out : I → tie.At-loop Inv-loop2 μ-loop2 Inv-loop μ-loop
-Out i = i .before .before .before .before .before
-
-abbrev In : I → tie.At-loop2 Inv-loop2 μ-loop2 Inv-loop μ-loop
-In i = i .before .before
-
-abbrev Top : I → T
-Top i = Out i .before
-
-abbrev Row : I → ℕ
-Row i = Out i .loop .row
-
-abbrev Col : I → ℕ
-Col i = In i .loop2 .col
-
-abbrev P : I → ℕ
-P i = Row i * W (Top i) + Col i
-
-row-low : (i : I) → Row i < Sh (Top i) .rows
-row-low i = In i .before .if1 .taken
-
-spot : (i : I) → (P i < points (Sh (Top i))) × (points (Sh (Top i)) ≤ pointsMost)
-spot i = (digits-lt (row-low i) (i .if2 .taken), sheet (Top i) .small)
-
-member : (i : I) → inLayer (Sh (Top i)) (K (Top i)) (P i) ≡ true
-member i =
-    let t = Top i in
-    in-at (Sh t) (K t) (Row i) (Col i) (i .if2 .taken)
-    (inside (Sh t) (K t) (G t) (grid t) (good t) (sheet t .wide) (Row i) (Col i) (Out i .loop .inv .0) (In i .loop2 .inv .0))
-
--- the row's beginning, as the outer loop has it
-begun : (l : tie.At-loop Inv-loop2 μ-loop2 Inv-loop μ-loop) → (let t = l .before in l .loop .row < Sh t .rows → Gathering (Sh t) (K t) (A t .args .start) (F t) (Ws t) (l .loop .row * W t) (l .loop .words) (l .loop .i))
-begun l h =
-    let t = l .before in
-    let e : min (l .loop .row * W t) (points (Sh t)) ≡ l .loop .row * W t = omega (arith, row-in t (l .loop .row) h) in
-    subst (λ (p : ℕ). Gathering (Sh t) (K t) (A t .args .start) (F t) (Ws t) p (l .loop .words) (l .loop .i)) e (l .loop .inv .1)
-
-walked : (i : I) → (let t = Top i in Gathering (Sh t) (K t) (A t .args .start) (F t) (Ws t) (P i) (In i .loop2 .words) (In i .loop2 .i))
-walked i =
-    let t = Top i in
-    let e : Row i * W t + min (Col i) (W t) ≡ P i = omega (arith, i .if2 .taken) in
-    subst (λ (p : ℕ). Gathering (Sh t) (K t) (A t .args .start) (F t) (Ws t) p (In i .loop2 .words) (In i .loop2 .i)) e
-    (In i .loop2 .inv .1 (Ws t) (begun (Out i) (row-low i)))
-
-room : (i : I) → In i .loop2 .i < length (In i .loop2 .words)
+room : (i : In) → (let l = i .before in S l .args .start + (l .loop .r * N l .points + N l .points) ≤ length (l .loop .words))
 room i =
-    let t = Top i in
-    let w = walked i in
-    let q = place-in (Sh t) (K t) (P i) (spot i .0) (member i) in
-    omega (arith, w .index, gathering-same w, q, A t .pre .1 .1)
+    let l = i .before in
+    omega (arith, line-room (lines l) (l .loop .r) (i .loop-test .taken), S l .pre .1 .1, same l)
 
-mul-word-of : tie.Need-mul-word-of Inv-loop2 μ-loop2 Inv-loop μ-loop
-mul-word-of c = omega (arith, spot (c .before))
+layer-lines-requires : tie.Need-layer-lines-requires Inv-loop μ-loop
+layer-lines-requires c κs = search needs
 
-add-word-of : tie.Need-add-word-of Inv-loop2 μ-loop2 Inv-loop μ-loop
-add-word-of c = omega (arith, spot (c .before))
+loop-holds : tie.Need-loop-holds Inv-loop μ-loop
+loop-holds c =
+    let s = c .before .before in
+    let z : 0 * c .layer-lines .result .points ≡ 0 = omega arith in
+    (omega arith, λ sh d. sym (ap (λ (n : ℕ). sets (now (s .args .words)) (s .args .start) (tabulate n (λ i. wordOf (at (now (s .args .coefficients)) (pointOf sh (s .args .layer) i))))) z ∙ sets-none (now (s .args .words)) (s .args .start) _))
 
-mul-word-of-2 : tie.Need-mul-word-of-2 Inv-loop2 μ-loop2 Inv-loop μ-loop
-mul-word-of-2 c = omega (arith, spot (c .before))
+mul-gather-line : tie.Need-mul-gather-line Inv-loop μ-loop
+mul-gather-line c = omega (arith, near (c .before), small (c .before .before))
 
-shared-slice-copy-out-word-of :
-    tie.Need-shared-slice-copy-out-word-of Inv-loop2 μ-loop2 Inv-loop μ-loop
-shared-slice-copy-out-word-of c = omega (arith, spot (c .before), A (Top (c .before)) .pre .1 .0 .0)
+add-gather-line : tie.Need-add-gather-line Inv-loop μ-loop
+add-gather-line c = omega (arith, near (c .before .before), small (c .before .before .before))
 
-word-of-requires : tie.Need-word-of-requires Inv-loop2 μ-loop2 Inv-loop μ-loop
-word-of-requires c κs =
-    let i = c .before .before in
-    rw (toZ-ofZ (sfits-of (c .word-of-arg .given))) (A (Top i) .pre .1 .0 .1 (P i))
+mul-gather-line-2 : tie.Need-mul-gather-line-2 Inv-loop μ-loop
+mul-gather-line-2 c = let i = c .before .before .before .before in omega (arith, room i, same (i .before), S (i .before) .good)
 
-mul-words : tie.Need-mul-words Inv-loop2 μ-loop2 Inv-loop μ-loop
-mul-words c =
-    let i = c .before .before .before in
-    omega (arith, room i, gathering-same (walked i), A (Top i) .good)
+add-gather-line-2 : tie.Need-add-gather-line-2 Inv-loop μ-loop
+add-gather-line-2 c = let i = c .before .before .before .before in omega (arith, room i, same (i .before), S (i .before) .good)
 
-slice-write-words : tie.Need-slice-write-words Inv-loop2 μ-loop2 Inv-loop μ-loop
-slice-write-words c = room (c .before .before .before)
-
-add-i : tie.Need-add-i Inv-loop2 μ-loop2 Inv-loop μ-loop
-add-i c =
-    let i = c .before .before .before in
-    omega (arith, room i, gathering-same (walked i), A (Top i) .good)
-
-add-col : tie.Need-add-col Inv-loop2 μ-loop2 Inv-loop μ-loop
-add-col c =
+gather-line-requires : tie.Need-gather-line-requires Inv-loop μ-loop
+gather-line-requires c κs =
     let i = c .before .before .before .before in
-    let t = Top i in
-    omega (arith, i .if2 .taken, cols-small (sheet t), good t .col-small)
+    let l = i .before in
+    ((λ j h. rw (S l .pre .1 .0 .0) (line-on (lines l) (l .loop .r) (i .loop-test .taken) j h), S l .pre .1 .0 .1), omega (arith, room i))
 
-loop2-less : tie.Need-loop2-less Inv-loop2 μ-loop2 Inv-loop μ-loop
-loop2-less c =
-    let i = c .before .before .before .before in
-    omega (arith, i .if2 .taken, good (Top i) .col)
+-- a turn
+abbrev C : Type 0
+C = tie.After-slice-known2 Inv-loop μ-loop
 
-loop2-again : tie.Need-loop2-again Inv-loop2 μ-loop2 Inv-loop μ-loop
-loop2-again c =
-    let d = c .before in
-    let i = d .before .before .before in
-    let t = Top i in
-    let r = Row i in
-    let x = Col i in (
-      add-mod-right x (G t .right) ∙ In i .loop2 .inv .0,
-      λ l w.
-          let at-x : r * W t + min x (W t) ≡ P i = omega (arith, i .if2 .taken) in
-          let here = subst (λ (p : ℕ). Gathering (Sh t) (K t) (A t .args .start) (F t) l p (In i .loop2 .words) (In i .loop2 .i)) at-x (In i .loop2 .inv .1 l w) in
-          gathering-skip (r * W t + min (x + G t .right) (W t)) (omega (arith, i .if2 .taken, good t .col))
-          (λ j h k. out-cols (Sh t) (K t) (G t) (grid t) (good t) (sheet t .wide) r x j (In i .loop2 .inv .0) (omega arith) k)
-          (gathering-more _ (spot i .0) (member i) (d .word-of .ensures ∙ ap wordOf (toZ-ofZ (sfits-of (d .before .word-of-arg .given)))) here),
-    )
+abbrev Turn : C → In
+Turn c = c .before .before .before .before .before .before .before
 
-add-row : tie.Need-add-row Inv-loop2 μ-loop2 Inv-loop μ-loop
-add-row c =
-    let p = c .before .before .before .before in
-    let t = p .before .before .before in
-    omega (arith, p .if1 .taken, rows-small (sheet t), good t .row-small)
+add-r : tie.Need-add-r Inv-loop μ-loop
+add-r c = omega (arith, Turn c .loop-test .taken, c .before .before .before .before .before .before .struct-known .given)
 
-loop-less : tie.Need-loop-less Inv-loop2 μ-loop2 Inv-loop μ-loop
-loop-less c =
-    let p = c .before .before .before .before in
-    let t = p .before .before .before in
-    omega (arith, p .if1 .taken, good t .row)
+loop-less : tie.Need-loop-less Inv-loop μ-loop
+loop-less c = omega (arith, Turn c .loop-test .taken)
 
-loop-again : tie.Need-loop-again Inv-loop2 μ-loop2 Inv-loop μ-loop
+loop-again : tie.Need-loop-again Inv-loop μ-loop
 loop-again c =
-    let p = c .before .before .before .before in
-    let l = p .before .before in
-    let t = l .before in
-    let r = l .loop .row in
-    let x = c .before .before .before .loop2 in
-    let done : W t ≤ x .col = c .before .if2 .left in
-    let some-row : 1 ≤ G t .down = omega (arith, good t .row) in
-    let ends : r * W t + min (x .col) (W t) ≡ r * W t + W t = omega arith in
-    let here = subst (λ (q : ℕ). Gathering (Sh t) (K t) (A t .args .start) (F t) (Ws t) q (x .words) (x .i)) ends (x .inv .1 (Ws t) (begun l (p .if1 .taken))) in (
-      add-mod-right r (G t .down) ∙ l .loop .inv .0,
-      gathering-skip (min ((r + G t .down) * W t) (points (Sh t))) (omega (arith, mul-le-mul-right (W t) some-row, row-in t r (p .if1 .taken)))
-          (λ i h′ k. out-rows (Sh t) (K t) (G t) (grid t) (good t) (sheet t .wide) r i (l .loop .inv .0) h′ (omega arith))
-          here,
+    let i = Turn c in
+    let l = i .before in
+    let s = S l in
+    let m = l .loop .r * N l .points in
+    let n = N l .points in
+    let e : m + n ≡ (l .loop .r + 1) * n = omega arith in (
+      omega (arith, i .loop-test .taken),
+      λ sh d.
+          sets-then m n (now (s .args .words)) (s .args .start) (F l sh) (G l)
+          (λ j h. ap (λ (p : ℕ). wordOf (at (now (s .args .coefficients)) p)) (sym (d .point (l .loop .r) j (i .loop-test .taken) h)))
+          (l .loop .inv .1 sh d) (c .before .before .gather-line .ensures)
+          ∙ ap (λ (x : ℕ). sets (now (s .args .words)) (s .args .start) (tabulate x (F l sh))) e,
     )
 
-same-length : tie.Need-same-length Inv-loop2 μ-loop2 Inv-loop μ-loop
-same-length c = gathering-same (c .before .before .loop .inv .1)
+same-length : tie.Need-same-length Inv-loop μ-loop
+same-length c = same (c .before)
 
-returns : tie.Need-returns Inv-loop2 μ-loop2 Inv-loop μ-loop
+returns : tie.Need-returns Inv-loop μ-loop
 returns c =
-    let l = c .before .before in
-    let t = l .before in
-    gathering-all (omega (arith, mul-le-mul-right (W t) (c .if1 .left))) (l .loop .inv .1)
+    let l = c .before in
+    let end : l .loop .r ≡ N l .lines = omega (arith, c .loop-test .left, l .loop .inv .0) in
+    let e : l .loop .r * N l .points ≡ layerSize (Sh l) (S l .args .layer) = ap (λ (x : ℕ). x * N l .points) end ∙ lines l .size in
+    l .loop .inv .1 (Sh l) (lines l) ∙ ap (λ (x : ℕ). sets (now (S l .args .words)) (S l .args .start) (tabulate x (F l (Sh l)))) e
 
 pub gather-layer-spec : {M : Type 1} → statement M
 gather-layer-spec =
     tie.close
     (tie.spec
-    Inv-loop2
-    μ-loop2
     Inv-loop
     μ-loop
-    layer-grid-requires
+    layer-lines-requires
     loop-holds
-    loop2-holds
-    mul-word-of
-    add-word-of
-    mul-word-of-2
-    shared-slice-copy-out-word-of
-    word-of-requires
-    mul-words
-    slice-write-words
-    add-i
-    add-col
-    loop2-less
-    loop2-again
-    add-row
+    mul-gather-line
+    add-gather-line
+    mul-gather-line-2
+    add-gather-line-2
+    gather-line-requires
+    add-r
     loop-less
     loop-again
     same-length

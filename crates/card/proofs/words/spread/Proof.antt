@@ -2,13 +2,14 @@
 use mathlib.Core.Path.{_≡_, _∙_, sym, ap}
 use mathlib.Core.Bool.{true}
 use mathlib.Core.List.{List}
-use Prim.Native.Nat.{ℕ, _+_, _-_, _*_, _≤_}
+use Prim.Native.Nat.{ℕ, _+_, _-_, _*_, _<_, _≤_}
 use native.Mathlib.Omega.{arith}
 use denote.Ref.{now}
 use borrow.Author.Needs.{needs}
 use Rattle.layers.specs.declared.Shape.{Shape}
 use Rattle.layers.specs.Sheet.{accepted, layers}
-use Rattle.layers.proofs.Accepting.{Sheet, accepted-yes}
+use Rattle.layers.proofs.Accepting.{Sheet, accepted-yes, count-is}
+use Rattle.header.specs.Header.{cellPoints}
 use Rattle.header.proofs.Cells.{cells-there}
 use Rattle.card.specs.Words.{blockStart, wordsMost, spreadOver}
 use Rattle.card.proofs.Blocks.{block-none, block-next, layer-room, block-room}
@@ -40,11 +41,14 @@ yes l = S l .pre .0
 sheet : (l : L) → Sheet (Sh l)
 sheet l = accepted-yes (Sh l) (yes l)
 
-mul-layers : tie.Need-mul-layers Inv-loop μ-loop
-mul-layers c = omega (arith, accepted-yes (c .before .before .args .shape) (c .before .before .pre .0) .shallow)
+count : (l : L) → l .before .layer-count .result ≡ layers (Sh l)
+count l = l .before .layer-count .ensures ∙ count-is (Sh l) (yes l)
 
-add-layers : tie.Need-add-layers Inv-loop μ-loop
-add-layers c = omega (arith, accepted-yes (c .before .before .args .shape) (c .before .before .pre .0) .shallow)
+below : (i : tie.In-loop Inv-loop μ-loop) → i .before .loop .k < layers (Sh (i .before))
+below i = omega (arith, i .loop-test .taken, count (i .before))
+
+layer-count-requires : tie.Need-layer-count-requires Inv-loop μ-loop
+layer-count-requires c κs = search needs
 
 loop-holds : tie.Need-loop-holds Inv-loop μ-loop
 loop-holds c =
@@ -54,7 +58,7 @@ loop-holds c =
 spread-layer-requires : tie.Need-spread-layer-requires Inv-loop μ-loop
 spread-layer-requires c κs =
     let l = c .before .before in
-    let h = c .before .loop-test .taken in
+    let h = below (c .before) in
     ((yes l, h), ((l .loop .inv .2 .long, omega (arith, layer-room (Sh l) (yes l) (l .loop .k) h, l .loop .inv .1, S l .pre .1 .0 .1)), S l .pre .1 .1))
 
 plane-cells-requires : tie.Need-plane-cells-requires Inv-loop μ-loop
@@ -70,11 +74,11 @@ In c = c .before .before .before .before
 abbrev Lp : C → L
 Lp c = In c .before
 
-cells : (c : C) → (let l = Lp c in (l .loop .start + 256 * c .plane-cells .result ≡ blockStart (Sh l) (l .loop .k + 1)) × (l .loop .start + 256 * c .plane-cells .result ≤ wordsMost))
+cells : (c : C) → (let l = Lp c in (l .loop .start + cellPoints * c .plane-cells .result ≡ blockStart (Sh l) (l .loop .k + 1)) × (l .loop .start + cellPoints * c .plane-cells .result ≤ wordsMost))
 cells c =
     let l = Lp c in
     let k = l .loop .k in
-    let h = In c .loop-test .taken in
+    let h = below (In c) in
     omega (arith, l .loop .inv .1, c .plane-cells .ensures, cells-there (Sh l) (yes l) k h, block-next (Sh l) k, block-room (Sh l) (yes l) k h)
 
 mul-start : tie.Need-mul-start Inv-loop μ-loop
@@ -84,7 +88,7 @@ add-start : tie.Need-add-start Inv-loop μ-loop
 add-start c = omega (arith, cells c .1)
 
 add-k : tie.Need-add-k Inv-loop μ-loop
-add-k c = omega (arith, In c .loop-test .taken, sheet (Lp c) .shallow)
+add-k c = omega (arith, below (In c), sheet (Lp c) .shallow)
 
 loop-less : tie.Need-loop-less Inv-loop μ-loop
 loop-less c = omega (arith, In c .loop-test .taken)
@@ -93,9 +97,9 @@ loop-again : tie.Need-loop-again Inv-loop μ-loop
 loop-again c =
     let l = Lp c in
     let k = l .loop .k in
-    let h = In c .loop-test .taken in
+    let h = below (In c) in
     let e = c .before .before .spread-layer .ensures ∙ ap (λ (s : ℕ). spreadOver (Sh l) k (Ws l) s (l .loop .coefficients)) (l .loop .inv .1) in
-    (omega (arith, h), cells c .0, spread-more (Sh l) (Ws l) (yes l) k (l .loop .coefficients) _ h (l .loop .inv .2) e)
+    (omega (arith, In c .loop-test .taken), cells c .0, spread-more (Sh l) (Ws l) (yes l) k (l .loop .coefficients) _ h (l .loop .inv .2) e)
 
 same-length : tie.Need-same-length Inv-loop μ-loop
 same-length c = c .before .loop .inv .2 .long ∙ sym (S (c .before) .pre .1 .0 .0)
@@ -103,7 +107,7 @@ same-length c = c .before .loop .inv .2 .long ∙ sym (S (c .before) .pre .1 .0 
 returns : tie.Need-returns Inv-loop μ-loop
 returns c =
     let l = c .before in
-    spread-all (Sh l) (Ws l) (yes l) (l .loop .k) (l .loop .coefficients) (omega (arith, c .loop-test .left)) (l .loop .inv .2)
+    spread-all (Sh l) (Ws l) (yes l) (l .loop .k) (l .loop .coefficients) (omega (arith, c .loop-test .left, count l)) (l .loop .inv .2)
 
 pub spread-spec : {M : Type 1} → statement M
 spread-spec =
@@ -111,8 +115,7 @@ spread-spec =
     (tie.spec
     Inv-loop
     μ-loop
-    mul-layers
-    add-layers
+    layer-count-requires
     loop-holds
     spread-layer-requires
     plane-cells-requires

@@ -1,7 +1,7 @@
 -- By the tests in turn, each of which is one of the definition's. After them quantizing is not refused; what it answers is what writing answers, and where it is done its coefficients are within 23 digits, so that their card is written.
 use mathlib.Core.Logic.{⊎-elim}
 use mathlib.Core.Path.{_≡_, sym, ap, _∙_}
-use mathlib.Core.Bool.{false}
+use mathlib.Core.Bool.{true, false, not}
 use mathlib.Core.List.{List}
 use Prim.Native.Nat.{ℕ, _*_, _≤_}
 use native.Mathlib.Omega.{arith}
@@ -13,9 +13,11 @@ use borrow.Author.Tests.{not-true, not-false, eqb-true, eqb-false, ltb-true, ltb
 use denote.Ref.{now}
 use Rattle.layers.specs.declared.Shape.{Shape}
 use Rattle.layers.specs.Limits.{levelsMost, stepMost}
+use Rattle.layers.specs.Sheet.{sized}
+use Rattle.layers.proofs.Accepting.{sized-yes}
 use Rattle.card.specs.Words.{wordsMost}
 use Rattle.card.specs.Writing.{outputLeast, badSizes, shapeOf}
-use Rattle.card.proofs.BadSizes.{good-sizes}
+use Rattle.card.proofs.BadSizes.{bad-sizes}
 use Rattle.card.proofs.Writes as W
 use Rattle.card.proofs.writing.write.Statement.{statement}
 use Rattle.card.proofs.writing.write.Tie as tie
@@ -40,17 +42,20 @@ Out a = now (a .args .output)
 abbrev A1 : tie.Else1 → tie.Start
 A1 d = d .before .before .before
 
+good-size : (d : tie.Else1) → sized (A1 d .args .rows) (A1 d .args .cols) ≡ true
+good-size d = sym (d .before .sized .ensures) ∙ not-false _ (d .if1 .left)
+
 sizes : (d : tie.Else1) → badSizes (A1 d .args .rows) (A1 d .args .cols) ≡ false
-sizes d = sym (d .before .bad-size .ensures) ∙ d .if1 .left
+sizes d = bad-sizes (A1 d .args .rows) (A1 d .args .cols) ∙ ap not (good-size d)
 
 abbrev A3 : tie.Else3 → tie.Start
 A3 d = A1 (d .before .before)
 
 levels-few : (d : tie.Else3) → A3 d .args .levels ≤ levelsMost
-levels-few d = d .before .if2 .left
+levels-few d = omega (arith, d .before .if2 .left)
 
 step-few : (d : tie.Else3) → A3 d .args .step ≤ stepMost
-step-few d = ltb-false _ _ (d .if3 .left)
+step-few d = omega (arith, ltb-false, d .if3 .left)
 
 abbrev A5 : tie.Else5 → tie.Start
 A5 d = A3 (d .before .before)
@@ -76,8 +81,8 @@ D q = q .before .before .before
 abbrev A : tie.After-quantize → tie.Start
 A q = A7 (D q)
 
-bad-size-requires : tie.Need-bad-size-requires
-bad-size-requires c κs = search needs
+sized-requires : tie.Need-sized-requires
+sized-requires c κs = search needs
 
 refused-requires : tie.Need-refused-requires
 refused-requires c κs = search needs
@@ -85,7 +90,7 @@ refused-requires c κs = search needs
 returns : tie.Need-returns
 returns c = let b = c .before .before in
     let a = b .before .before in
-    W.bad-size (Xs a) (Sh a) (a .args .curve) (a .args .step) (Qs a) (Vs a) (Out a) (sym (b .bad-size .ensures) ∙ c .before .if1 .taken) (c .refused .result) (c .refused .ensures .0) (c .refused .ensures .1)
+    W.bad-size (Xs a) (Sh a) (a .args .curve) (a .args .step) (Qs a) (Vs a) (Out a) (bad-sizes (a .args .rows) (a .args .cols) ∙ ap not (sym (b .sized .ensures)) ∙ c .before .if1 .taken) (c .refused .result) (c .refused .ensures .0) (c .refused .ensures .1)
 
 refused-requires-2 : tie.Need-refused-requires-2
 refused-requires-2 c κs = search needs
@@ -95,11 +100,11 @@ returns-2 c = let j = c .before in
     let d = j .before in
     let a = A1 d in
     W.bad-settings (Xs a) (Sh a) (a .args .curve) (a .args .step) (Qs a) (Vs a) (Out a) (sizes d)
-    (⊎-elim (λ w. W.many-levels (Xs a) (Sh a) (a .args .curve) (a .args .step) (Qs a) (Vs a) (Out a) (sizes d) (w .taken)) (λ w. W.wide-step (Xs a) (Sh a) (a .args .curve) (a .args .step) (Qs a) (Vs a) (Out a) (sizes d) (w .1 .taken)) (j .if2 .came))
+    (⊎-elim (λ w. W.many-levels (Xs a) (Sh a) (a .args .curve) (a .args .step) (Qs a) (Vs a) (Out a) (sizes d) (omega (arith, w .taken))) (λ w. W.wide-step (Xs a) (Sh a) (a .args .curve) (a .args .step) (Qs a) (Vs a) (Out a) (sizes d) (omega (arith, ltb-true, w .1 .taken))) (j .if2 .came))
     (c .refused2 .result) (c .refused2 .ensures .0) (c .refused2 .ensures .1)
 
 mul-points : tie.Need-mul-points
-mul-points c = let a = A3 c in omega (arith, good-sizes (a .args .rows) (a .args .cols) (sizes (c .before .before)) .2)
+mul-points c = let a = A3 c in omega (arith, sized-yes (a .args .rows) (a .args .cols) (good-size (c .before .before)) .small)
 
 refused-requires-3 : tie.Need-refused-requires-3
 refused-requires-3 c κs = search needs
@@ -204,7 +209,7 @@ pub write-spec : {M : Type 1} → statement M
 write-spec =
     tie.close
     (tie.spec
-    bad-size-requires
+    sized-requires
     refused-requires
     returns
     refused-requires-2

@@ -1,12 +1,9 @@
 -- The words gathered have the header's counts, so the header printed is that of the coefficients and the card fits; its text, then the planes from the words behind it are the card.
-use mathlib.Core.Path.{ap, _∙_}
 use native.Mathlib.Omega.{arith}
-use lib.ListN.{length, take}
-use lib.Seq.{length-sets}
 use borrow.Author.Needs.{needs}
 use denote.Ref.{now}
 use Rattle.card.proofs.Needed.{words-small}
-use Rattle.card.proofs.Cards.{text-short, text-there, room, answer, output-is}
+use Rattle.card.proofs.Cards.{text-short, room, answer, output-is}
 use Rattle.card.proofs.writing.write_card.Statement.{statement}
 use Rattle.card.proofs.writing.write_card.Tie as tie
 
@@ -14,14 +11,8 @@ use Rattle.card.proofs.writing.write_card.Tie as tie
 abbrev S : tie.After-gather → tie.Start
 S g = g .before .before .before .before
 
-abbrev N : tie.After-header-text → tie.After-counts
-N h = h .before .before
-
-abbrev G : tie.After-header-text → tie.After-gather
-G h = N h .before .before .before .before
-
-abbrev H : tie.After-put-text → tie.After-header-text
-H p = p .before .before
+abbrev G : tie.After-total-cells → tie.After-gather
+G t = t .before .before .before .before .before
 
 gather-requires : tie.Need-gather-requires
 gather-requires c κs = search needs
@@ -34,25 +25,22 @@ counts-requires c κs = let g = c .before .before .before in
 total-cells-requires : tie.Need-total-cells-requires
 total-cells-requires c κs = search needs
 
-header-text-requires : tie.Need-header-text-requires
-header-text-requires c κs = search needs
-
-put-text-requires : tie.Need-put-text-requires
-put-text-requires c κs = let h = c .before in
-    let g = G h in
+put-header-requires : tie.Need-put-header-requires
+put-header-requires c κs = let t = c .before in
+    let n = t .before in
+    let g = G t in
     let s = S g in
-    let short = text-short (s .args .shape) (s .pre .0 .0) (s .args .curve) (s .args .step) (s .pre .0 .1) (now (s .args .coefficients)) _ (g .gather .ensures) (s .pre .1 .0 .1) _ (N h .counts .ensures) _ (h .before .total-cells .ensures) (h .header-text .result .bytes) (h .header-text .result .length) (h .header-text .ensures .0) (h .header-text .ensures .1) in
-    let there = text-there (s .args .shape) (s .pre .0 .0) (s .args .curve) (s .args .step) (s .pre .0 .1) (now (s .args .coefficients)) _ (g .gather .ensures) (s .pre .1 .0 .1) _ (N h .counts .ensures) _ (h .before .total-cells .ensures) (h .header-text .result .bytes) (h .header-text .result .length) (h .header-text .ensures .0) (h .header-text .ensures .1) in
-    (omega (arith, short), there, omega (arith, short, s .pre .0 .2))
+    let short = text-short (s .args .shape) (s .pre .0 .0) (s .args .curve) (s .args .step) (s .pre .0 .1) (now (s .args .coefficients)) _ (g .gather .ensures) (s .pre .1 .0 .1) _ (n .counts .ensures) _ (t .total-cells .ensures) in
+    omega (arith, short, s .pre .0 .2)
 
 put-body-requires : tie.Need-put-body-requires
 put-body-requires c κs = let p = c .before .before .before .before in
-    let h = H p in
-    let g = G h in
+    let t = p .before .before in
+    let n = t .before in
+    let g = G t in
     let s = S g in
-    let fits = room (s .args .shape) (s .pre .0 .0) (s .args .curve) (s .args .step) (s .pre .0 .1) (now (s .args .coefficients)) _ (g .gather .ensures) (s .pre .1 .0 .1) _ (N h .counts .ensures) _ (h .before .total-cells .ensures) (h .header-text .result .bytes) (h .header-text .result .length) (h .header-text .ensures .0) (h .header-text .ensures .1) in
-    let long = ap length (p .put-text .ensures) ∙ length-sets (now (s .args .output)) 0 (take (h .header-text .result .length) (h .header-text .result .bytes)) in
-    ((s .pre .0 .0, g .gather .ensures .long), omega (arith, fits, long, s .pre .0 .2))
+    let fits = room (s .args .shape) (s .pre .0 .0) (s .args .curve) (s .args .step) (s .pre .0 .1) (now (s .args .coefficients)) _ (g .gather .ensures) (s .pre .1 .0 .1) _ (n .counts .ensures) _ (t .total-cells .ensures) _ (p .put-header .ensures .0) in
+    ((s .pre .0 .0, g .gather .ensures .long), omega (arith, fits, p .put-header .kept .1 .0, s .pre .0 .2))
 
 same-length : tie.Need-same-length
 same-length c = search needs
@@ -63,11 +51,12 @@ same-length-2 c = search needs
 returns : tie.Need-returns
 returns c = let b = c .before .before in
     let p = b .before .before .before .before .before in
-    let h = H p in
-    let g = G h in
+    let t = p .before .before in
+    let n = t .before in
+    let g = G t in
     let s = S g in (
-      answer (s .args .shape) (s .pre .0 .0) (s .args .curve) (s .args .step) (s .pre .0 .1) (now (s .args .coefficients)) _ (g .gather .ensures) (s .pre .1 .0 .1) _ (N h .counts .ensures) _ (h .before .total-cells .ensures) (h .header-text .result .bytes) (h .header-text .result .length) (h .header-text .ensures .0) (h .header-text .ensures .1) _ (b .put-body .ensures .0),
-      output-is (s .args .shape) (s .pre .0 .0) (s .args .curve) (s .args .step) (s .pre .0 .1) (now (s .args .coefficients)) _ (g .gather .ensures) (s .pre .1 .0 .1) _ (N h .counts .ensures) _ (h .before .total-cells .ensures) (h .header-text .result .bytes) (h .header-text .result .length) (h .header-text .ensures .0) (h .header-text .ensures .1) (now (s .args .output)) _ _ (s .pre .0 .2) (p .put-text .ensures) (b .put-body .ensures .1),
+      answer (s .args .shape) (s .pre .0 .0) (s .args .curve) (s .args .step) (s .pre .0 .1) (now (s .args .coefficients)) _ (g .gather .ensures) (s .pre .1 .0 .1) _ (n .counts .ensures) _ (t .total-cells .ensures) _ (p .put-header .ensures .0) _ (b .put-body .ensures .0),
+      output-is (s .args .shape) (s .pre .0 .0) (s .args .curve) (s .args .step) (s .pre .0 .1) (now (s .args .coefficients)) _ (g .gather .ensures) (s .pre .1 .0 .1) _ (n .counts .ensures) _ (t .total-cells .ensures) _ (p .put-header .ensures .0) (now (s .args .output)) _ _ (s .pre .0 .2) (p .put-header .ensures .1) (b .put-body .ensures .1),
     )
 
 pub write-card-spec : {M : Type 1} → statement M
@@ -77,8 +66,7 @@ write-card-spec =
     gather-requires
     counts-requires
     total-cells-requires
-    header-text-requires
-    put-text-requires
+    put-header-requires
     put-body-requires
     same-length
     same-length-2

@@ -1,9 +1,14 @@
 -- The key, the number and the line's end, each behind what stands.
+use mathlib.Core.List.{[], _∷_, _++_}
+use Prim.Native.Nat.{_+_, _≤_}
 use native.Mathlib.Omega.{arith}
 use borrow.Author.Needs.{needs}
-use Rattle.text.specs.Line.{lineText}
-use Rattle.text.proofs.Digits.{length-20}
-use Rattle.display.proofs.Behind.{holds-more}
+use denote.Ref.{now}
+use Rattle.text.specs.Decimal.{digits}
+use Rattle.text.specs.Line.{newline, lineText}
+use Rattle.text.proofs.Digits.{length-most}
+use Rattle.display.specs.Shown.{pieceMost}
+use Rattle.display.proofs.Behind.{long, extended-more, holds}
 use Rattle.display.proofs.pieces.line.Statement.{statement}
 use Rattle.display.proofs.pieces.line.Tie as tie
 
@@ -11,16 +16,23 @@ nothing-requires : tie.Need-nothing-requires
 nothing-requires c κs = search needs
 
 with-text-requires : tie.Need-with-text-requires
-with-text-requires c κs = search needs
+with-text-requires c κs = omega (arith, long (c .nothing .ensures))
 
 with-number-requires : tie.Need-with-number-requires
-with-number-requires c κs = omega arith
+with-number-requires c κs = omega (arith, long (c .with-text .ensures), long (c .before .nothing .ensures))
+
+-- the end is within the piece
+ends : (c : tie.After-with-number) → c .with-number .result .length + 1 ≤ pieceMost
+ends c =
+    let t = c .before in
+    let n = t .before in
+    omega (arith, long (c .with-number .ensures), long (t .with-text .ensures), long (n .nothing .ensures), length-most (n .before .before .args .n) (omega arith))
 
 slice-aggregate-with-text : tie.Need-slice-aggregate-with-text
 slice-aggregate-with-text c = search needs
 
 with-text-requires-2 : tie.Need-with-text-requires-2
-with-text-requires-2 c κs = omega (arith, length-20 (c .before .before .before .before .before .args .n) (omega arith))
+with-text-requires-2 c κs = ends (c .before)
 
 returns : tie.Need-returns
 unfolding lineText
@@ -28,7 +40,12 @@ returns c =
     let m = c .before .before in
     let t = m .before in
     let n = t .before in
-    holds-more (holds-more (holds-more (n .nothing .ensures) (t .with-text .ensures)) (m .with-number .ensures)) (c .with-text2 .ensures)
+    let key = now (n .before .before .args .key) in
+    let number = digits (n .before .before .args .n) in
+    let start = n .nothing .result in
+    holds (key ++ number ++ newline ∷ []) (n .nothing .ensures)
+    (extended-more start (key ++ number) (newline ∷ []) (extended-more start key number (t .with-text .ensures) (m .with-number .ensures)) (c .with-text2 .ensures))
+    (omega (arith, long (c .with-text2 .ensures), ends m))
 
 pub line-spec : {M : Type 1} → statement M
 line-spec =

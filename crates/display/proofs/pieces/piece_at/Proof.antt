@@ -1,7 +1,8 @@
 -- By the tests, as the definition has them.
+use native.Mathlib.Omega.{arith}
 use borrow.Author.Needs.{needs}
 use borrow.Author.Tests.{lt-ltb, le-ltb, eq-eqb, ne-eqb}
-use Rattle.display.specs.Shown.{pieceAt}
+use Rattle.display.specs.Shown.{sheetLines, pieceAt}
 use Rattle.display.proofs.pieces.piece_at.Statement.{statement}
 use Rattle.display.proofs.pieces.piece_at.Tie as tie
 
@@ -23,7 +24,7 @@ unfolding pieceAt
 returns-2 c =
     let t = c .before in
     let s = t .before .before .before .before in
-    rw (eq-eqb (s .args .shown .number) 0 (t .before .if1 .left), le-ltb (s .args .i) 4 (t .if2 .taken)) (c .value-piece .ensures)
+    rw (eq-eqb (s .args .shown .number) 0 (t .before .if1 .left), le-ltb (s .args .i) sheetLines (omega arith)) (c .value-piece .ensures)
 
 sheet-line-requires : tie.Need-sheet-line-requires
 sheet-line-requires c κs = search needs
@@ -33,7 +34,7 @@ unfolding pieceAt
 returns-3 c =
     let t = c .before in
     let s = t .before .before .before .before in
-    rw (eq-eqb (s .args .shown .number) 0 (t .before .if1 .left), lt-ltb (s .args .i) 4 (t .if2 .left)) (c .sheet-line .ensures)
+    rw (eq-eqb (s .args .shown .number) 0 (t .before .if1 .left), lt-ltb (s .args .i) sheetLines (omega arith)) (c .sheet-line .ensures)
 
 pub piece-at-spec : {M : Type 1} → statement M
 piece-at-spec =

@@ -1,5 +1,8 @@
 -- By the tests; then what stands before the value, the value, and what stands behind it.
-use Prim.Native.Nat.{ℕ, _%_, _≤_}
+use mathlib.Core.Bool.{Bool, true, false}
+use mathlib.Core.List.{_++_}
+use mathlib.Core.Path.{_≡_, refl}
+use Prim.Native.Nat.{ℕ, _+_, _%_, _≤_}
 use native.Mathlib.Nat.{mod-lt}
 use native.Mathlib.Omega.{arith}
 use borrow.Author.Needs.{needs}
@@ -11,8 +14,8 @@ use lib.ListN.{length, getD}
 use mir.Facts.{toZ-ofZ}
 use Rattle.integers.proofs.Bools.{by}
 use Rattle.header.specs.Header.{asciiFrom}
-use Rattle.display.specs.Shown.{Extends, rowStart, signed, valuePiece}
-use Rattle.display.proofs.Behind.{holds-more}
+use Rattle.display.specs.Shown.{pieceMost, extended, rowStart, rowEnd, signed, valuePiece}
+use Rattle.display.proofs.Behind.{long, holds-more}
 use Rattle.display.proofs.Signs.{signed-length}
 use Rattle.display.proofs.pieces.value_piece.Statement.{statement}
 use Rattle.display.proofs.pieces.value_piece.Tie as tie
@@ -52,18 +55,29 @@ start-short : (column : ℕ) → length (rowStart column) ≤ 4
 unfolding asciiFrom
 start-short column = by (eqb column 0) (λ t. rw t (omega arith)) (λ t. rw t (omega arith))
 
+end-one : (last : Bool) → length (rowEnd last) ≡ 1
+end-one true = refl
+end-one false = refl
+
 with-value-requires : tie.Need-with-value-requires
 with-value-requires c κs =
     let r = c .before in
     let s = r .before .before .before in
-    omega (arith, r .row-start .ensures .length-is, start-short (s .args .i % s .args .cols))
+    omega (arith, long (r .row-start .ensures), start-short (s .args .i % s .args .cols))
 
 -- the value as it is read
 abbrev value : tie.After-with-value → ℤ
 value c = getD (now (c .before .before .before .before .before .args .values)) (c .before .before .before .before .before .args .i) (pos 0)
 
-put : (c : tie.After-with-value) → Extends (c .before .before .row-start .result) (signed (value c)) (c .with-value .result)
+put : (c : tie.After-with-value) → c .with-value .result ≡ extended (c .before .before .row-start .result) (signed (value c))
 put c = rw (toZ-ofZ (record { sfits = c .before .with-value-arg .given })) at (c .with-value .ensures)
+
+-- the byte behind it is within the piece
+ends : (c : tie.After-with-value) → c .with-value .result .length + 1 ≤ pieceMost
+ends c =
+    let r = c .before .before in
+    let s = r .before .before .before in
+    omega (arith, long (r .row-start .ensures), start-short (s .args .i % s .args .cols), long (put c), signed-length (value c) (c .before .with-value-arg .given))
 
 add-with-end : tie.Need-add-with-end
 add-with-end c =
@@ -72,10 +86,7 @@ add-with-end c =
     omega (arith, mod-lt (s .args .i) {m = s .args .cols} (omega (arith, e .if2 .left)))
 
 with-end-requires : tie.Need-with-end-requires
-with-end-requires c κs =
-    let r = c .before .before in
-    let s = r .before .before .before in
-    omega (arith, r .row-start .ensures .length-is, start-short (s .args .i % s .args .cols), put c .length-is, signed-length (value c) (c .before .with-value-arg .given))
+with-end-requires c κs = ends c
 
 returns-3 : tie.Need-returns-3
 unfolding valuePiece
@@ -84,8 +95,10 @@ returns-3 c =
     let r = v .before .before in
     let e = r .before in
     let s = e .before .before in
+    let start = rowStart (s .args .i % s .args .cols) in
+    let last = eqb (s .args .i % s .args .cols + 1) (s .args .cols) in
     rw (lt-ltb (s .args .i) (length (now (s .args .values))) (e .before .if1 .left), ne-eqb (s .args .cols) 0 (e .if2 .left))
-    (holds-more (holds-more (r .row-start .ensures) (put v)) (c .with-end .ensures))
+    (holds-more (start ++ signed (value v)) (rowEnd last) (holds-more start (signed (value v)) (r .row-start .ensures) (put v) (omega (arith, ends v))) (c .with-end .ensures) (omega (arith, long (c .with-end .ensures), ends v, end-one last)))
 
 pub value-piece-spec : {M : Type 1} → statement M
 value-piece-spec =

@@ -1,10 +1,10 @@
 -- By the test. The byte behind a value is compared as a number, so that another one is a counterexample.
 use mathlib.Core.List.{[], _∷_}
-use mathlib.Core.Path.{subst}
+use mathlib.Core.Path.{_≡_, subst}
 use Prim.Native.Nat.{ℕ}
 use native.Mathlib.Omega.{arith}
 use borrow.Author.Needs.{needs}
-use Rattle.display.specs.Shown.{Extends}
+use Rattle.display.specs.Shown.{extended}
 use Rattle.display.proofs.pieces.with_end.Statement.{statement}
 use Rattle.display.proofs.pieces.with_end.Tie as tie
 
@@ -23,7 +23,7 @@ with-text-requires-2 c κs = search needs
 returns : tie.Need-returns
 returns c =
     rw (c .before .before .if1 .taken)
-    (subst (λ (b : ℕ). Extends (c .before .before .before .args .piece) (b ∷ []) (c .with-text .result)) (omega arith) (c .with-text .ensures))
+    (subst (λ (b : ℕ). c .with-text .result ≡ extended (c .before .before .before .args .piece) (b ∷ [])) (omega arith) (c .with-text .ensures))
 
 returns-2 : tie.Need-returns-2
 returns-2 c = rw (c .before .before .if1 .left) (c .with-text2 .ensures)

@@ -1,4 +1,5 @@
 -- The invariant: whatever piece the first number stands behind, the first i numbers now stand behind it. Each turn puts one more, with its comma.
+use mathlib.Core.List.{[], _∷_, _++_}
 use mathlib.Core.Path.{_≡_}
 use Prim.Native.Nat.{ℕ, _+_, _-_, _*_, _<_, _≤_, _^_}
 use native.Mathlib.Omega.{arith}
@@ -7,19 +8,19 @@ use mir.Syntax.{w64}
 use mir.Val.{Fits}
 use borrow.Author.Needs.{needs}
 use Rattle.layers.specs.Limits.{layersMost}
-use Rattle.text.proofs.Digits.{length-20}
-use Rattle.header.specs.Header.{listText}
+use Rattle.text.specs.Decimal.{charactersMost, digits}
+use Rattle.text.proofs.Digits.{length-most}
+use Rattle.header.specs.Header.{comma, listText}
 use Rattle.header.proofs.ListText.{list-one, list-more}
 use Rattle.display.specs.declared.Piece.{Piece}
-use Rattle.display.specs.Shown as S
-use Rattle.display.specs.Shown.{Extends}
-use Rattle.display.proofs.Behind.{extends-more}
+use Rattle.display.specs.Shown.{keyMost, extended}
+use Rattle.display.proofs.Behind.{long, extended-more}
 use Rattle.display.proofs.pieces.with_list.Statement.{statement}
 use Rattle.display.proofs.pieces.with_list.Tie as tie
 
 abbrev Inv-loop : tie.InvT-loop
 Inv-loop count numbers out₀ i₀ t7 out i =
-    (1 ≤ i) × (i ≤ count) × (out .length + 21 ≤ out₀ .length + 21 * i) × ((p : Piece) → Extends p (listText (take 1 numbers)) out₀ → Extends p (listText (take i numbers)) out)
+    (1 ≤ i) × (i ≤ count) × (out .length + (charactersMost + 1) ≤ out₀ .length + (charactersMost + 1) * i) × ((p : Piece) → out₀ ≡ extended p (listText (take 1 numbers)) → out ≡ extended p (listText (take i numbers)))
 
 abbrev μ-loop : tie.MeasureT-loop
 μ-loop count numbers out₀ i₀ t7 out i = count - i
@@ -43,10 +44,10 @@ slice-aggregate-with-text : tie.Need-slice-aggregate-with-text Inv-loop μ-loop
 slice-aggregate-with-text c = search needs
 
 -- what the first number leaves room for
-room : (l : tie.At-loop Inv-loop μ-loop) → l .loop .out .length + 21 ≤ S.keyMost + 20 + 21 * l .loop .i
+room : (l : tie.At-loop Inv-loop μ-loop) → l .loop .out .length + 1 ≤ keyMost + (charactersMost + 1) * l .loop .i
 room l =
     let s = l .before .before in
-    omega (arith, l .loop .inv .2, l .before .with-number .ensures .length-is, s .pre, length-20 (getD (s .args .t2) 0 0) (number s 0))
+    omega (arith, l .loop .inv .2, long (l .before .with-number .ensures), s .pre, length-most (getD (s .args .t2) 0 0) (number s 0))
 
 with-text-requires : tie.Need-with-text-requires Inv-loop μ-loop
 with-text-requires c κs = let l = c .before .before in omega (arith, room l, c .before .loop-test .taken, l .before .before .pre)
@@ -61,7 +62,7 @@ with-number-requires-2 : tie.Need-with-number-requires-2 Inv-loop μ-loop
 with-number-requires-2 c κs =
     let i = c .before .before in
     let l = i .before in
-    omega (arith, room l, i .loop-test .taken, l .before .before .pre, c .with-text .ensures .length-is)
+    omega (arith, room l, i .loop-test .taken, l .before .before .pre, long (c .with-text .ensures))
 
 add-i : tie.Need-add-i Inv-loop μ-loop
 add-i c = omega arith
@@ -75,11 +76,12 @@ loop-again c =
     let i = t .before .before in
     let l = i .before in
     let s = l .before .before in
-    let k = l .loop .i in (
+    let k = l .loop .i in
+    let listed = listText (take k (s .args .t2)) in (
       omega arith,
       omega arith,
-      omega (arith, l .loop .inv .2, t .with-text .ensures .length-is, c .with-number2 .ensures .length-is, length-20 (getD (s .args .t2) k 0) (number s k)),
-      λ p e. rw (list-more (s .args .t2) k (l .loop .inv .0) (omega (arith, i .loop-test .taken, s .pre, full s))) (extends-more (extends-more (l .loop .inv .3 p e) (t .with-text .ensures)) (c .with-number2 .ensures)),
+      omega (arith, l .loop .inv .2, long (t .with-text .ensures), long (c .with-number2 .ensures), length-most (getD (s .args .t2) k 0) (number s k)),
+      λ p e. rw (list-more (s .args .t2) k (l .loop .inv .0) (omega (arith, i .loop-test .taken, s .pre, full s))) (extended-more p (listed ++ comma ∷ []) (digits (getD (s .args .t2) k 0)) (extended-more p listed (comma ∷ []) (l .loop .inv .3 p e) (t .with-text .ensures)) (c .with-number2 .ensures)),
     )
 
 returns : tie.Need-returns Inv-loop μ-loop

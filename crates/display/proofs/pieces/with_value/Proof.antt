@@ -5,9 +5,10 @@ use lib.IntN.{natAbs}
 use mir.Facts.{toZ-ofZ}
 use borrow.Author.Needs.{needs}
 use Rattle.integers.proofs.Diff.{lit}
-use Rattle.header.specs.Header.{asciiFrom}
+use Rattle.text.specs.Decimal.{digits}
+use Rattle.header.specs.Header.{asciiFrom, ascii}
 use Rattle.integers.proofs.Machine.{arg, lt-test, not-lt-test}
-use Rattle.display.proofs.Behind.{extends-more}
+use Rattle.display.proofs.Behind.{long, extended-more}
 use Rattle.display.proofs.Signs.{signed-below, signed-above}
 use Rattle.display.proofs.pieces.with_value.Statement.{statement}
 use Rattle.display.proofs.pieces.with_value.Tie as tie
@@ -22,7 +23,7 @@ magnitude-requires : tie.Need-magnitude-requires
 magnitude-requires c κs = search needs
 
 with-number-requires : tie.Need-with-number-requires
-with-number-requires c κs = omega arith
+with-number-requires c κs = omega (arith, long (c .before .with-text .ensures))
 
 magnitude-requires-2 : tie.Need-magnitude-requires-2
 magnitude-requires-2 c κs = search needs
@@ -38,7 +39,7 @@ returns c =
     let v = s .args .value in
     let size : m .magnitude .result ≡ natAbs v = m .magnitude .ensures ∙ ap natAbs (toZ-ofZ (s .fits .value)) in
     let text = signed-below v (omega (arith, lt-test (arg (s .fits .value)) (lit 0) (m .before .before .before .if1 .taken))) in
-    rw (text, ← size) (extends-more (m .before .with-text .ensures) (c .with-number .ensures))
+    rw (text, ← size) (extended-more (s .args .piece) (ascii "-") (digits (m .magnitude .result)) (m .before .with-text .ensures) (c .with-number .ensures))
 
 returns-2 : tie.Need-returns-2
 returns-2 c =

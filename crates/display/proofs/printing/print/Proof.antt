@@ -2,9 +2,10 @@
 use Prim.Native.Nat.{_-_, _≤_}
 use native.Mathlib.Omega.{arith}
 use lib.ListN.{length}
+use denote.Ref.{now}
 use mathlib.Core.Path.{_≡_}
 use borrow.Author.Needs.{needs}
-use Rattle.display.specs.Shown.{pieceMost}
+use Rattle.display.specs.Shown.{pieceMost, pieceAt}
 use Rattle.display.proofs.Behind.{holds-within}
 use Rattle.display.proofs.printing.print.Statement.{statement}
 use Rattle.display.proofs.printing.print.Tie as tie
@@ -26,8 +27,9 @@ piece-at-requires c κs = search needs
 
 write-requires : tie.Need-write-requires Inv-loop μ-loop
 write-requires c κs =
+    let s = c .before .before .before .before in
     let full : length (c .piece-at .result .bytes) ≡ pieceMost = search needs in
-    omega (arith, holds-within (c .piece-at .ensures))
+    omega (arith, holds-within (pieceAt (s .args .shown) (now (s .args .values)) (c .before .before .loop .i)) (c .piece-at .ensures))
 
 add-i : tie.Need-add-i Inv-loop μ-loop
 add-i c = omega arith

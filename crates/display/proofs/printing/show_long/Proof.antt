@@ -2,6 +2,8 @@
 use mathlib.Core.Path.{_≡_}
 use native.Mathlib.Omega.{arith}
 use lib.ListN.{length}
+use Rattle.text.specs.Line.{lineText}
+use Rattle.header.specs.Header.{asciiFrom, ascii}
 use Rattle.display.specs.Shown.{pieceMost}
 use Rattle.display.proofs.Behind.{holds-within}
 use borrow.Author.Needs.{needs}
@@ -24,9 +26,10 @@ line-requires : tie.Need-line-requires
 line-requires c κs = search needs
 
 write-requires : tie.Need-write-requires
+unfolding asciiFrom
 write-requires c κs =
     let full : length (c .line .result .bytes) ≡ pieceMost = search needs in
-    omega (arith, holds-within (c .line .ensures))
+    omega (arith, holds-within (lineText (ascii "refused=") (c .before .long-number .result)) (c .line .ensures))
 
 returns : tie.Need-returns
 returns c = search needs

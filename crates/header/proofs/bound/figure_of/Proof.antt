@@ -1,22 +1,23 @@
 -- The invariant: what stands is what stands after the layers passed. Each turn is one step of it, and a right header keeps every number far below 2^64.
 use Prim.Native.Nat.{ℕ, _+_, _-_, _*_, _≤_, _<_, _^_}
 use mathlib.Core.Bool.{cond}
-use mathlib.Core.Path.{_≡_, refl, sym, ap, ap₂, _∙_}
+use mathlib.Core.Path.{_≡_, sym, ap, ap₂, _∙_}
 use native.Mathlib.Numerals.{add-one}
 use native.Mathlib.Omega.{arith}
 use lib.Dec.{eqb}
 use lib.ListN.{getD}
+use Rattle.digits.proofs.Losses.{loss-counted}
 use Rattle.layers.specs.Carry as C
 use Rattle.layers.specs.Limits.{layersMost}
 use Rattle.layers.specs.Prediction.{width}
 use Rattle.layers.specs.Sheet.{layerSize, layers}
-use Rattle.layers.proofs.Accepting.{accepted-yes}
+use Rattle.layers.proofs.Accepting.{count-is}
 use Rattle.header.specs.Header.{planesOf}
 use Rattle.header.specs.Plan.{loads}
 use Rattle.header.specs.Figure.{ownLoss, figureOf}
-use Rattle.header.proofs.Figures.{missing-few, own-most, standing-most}
+use Rattle.header.proofs.Figures.{standingMost, missing-few, own-most, standing-most}
 use Rattle.header.proofs.Over.{over-none}
-use Rattle.header.proofs.Rightness.{Right, right-yes}
+use Rattle.header.proofs.Rightness.{Right, right-yes, layers-few}
 use Rattle.header.proofs.bound.figure_of.Statement.{statement}
 use Rattle.header.proofs.bound.figure_of.Tie as tie
 
@@ -27,23 +28,31 @@ Inv-loop header shape curve counts loaded width layers standing₀ k₀ standing
 abbrev μ-loop : tie.MeasureT-loop
 μ-loop header shape curve counts loaded width layers standing₀ k₀ standing k = layers - k
 
-abbrev S : tie.After-struct-known2 Inv-loop μ-loop → tie.Start Inv-loop μ-loop
+abbrev S : tie.After-layer-count Inv-loop μ-loop → tie.Start Inv-loop μ-loop
 S c = c .before .before .before .before .before
 
 rightly : (s : tie.Start Inv-loop μ-loop) → Right (s .args .header)
 rightly s = right-yes (s .args .header) (s .pre .0)
 
-few : (s : tie.Start Inv-loop μ-loop) → s .args .header .shape .levels ≤ 6
-few s = accepted-yes (s .args .header .shape) (rightly s .shape) .shallow
+-- the layers that are counted are the sheet's
+all : (c : tie.After-layer-count Inv-loop μ-loop) → c .layer-count .result ≡ layers (S c .args .header .shape)
+all c = c .layer-count .ensures ∙ count-is (S c .args .header .shape) (rightly (S c) .shape)
 
--- this turn's layer is one of the 13
+-- so this turn's is one of them, and one of those that there may be
+within : (c : tie.In-loop Inv-loop μ-loop) → c .before .loop .k < layers (S (c .before .before) .args .header .shape)
+within c = omega (arith, c .loop-test .taken, all (c .before .before))
+
 inside : (c : tie.In-loop Inv-loop μ-loop) → c .before .loop .k < layersMost
-inside c = omega (arith, few (S (c .before .before)), c .loop-test .taken)
+inside c = omega (arith, within c, layers-few (rightly (S (c .before .before))))
 
--- what it loses
+-- what it loses: of so few planes `loss` counts all
 own-is : (c : tie.After-loss Inv-loop μ-loop) → c .loss .result * (2 * S (c .before .before .before) .args .header .step + 1) ≡ ownLoss (S (c .before .before .before) .args .header) (loads (S (c .before .before .before) .args .plan)) (c .before .before .loop .k)
 unfolding width
-own-is c = ap (λ (n : ℕ). n * (2 * S (c .before .before .before) .args .header .step + 1)) (c .loss .ensures)
+own-is c =
+    let s = S (c .before .before .before) in
+    let k = c .before .before .loop .k in
+    let few = missing-few (rightly s) (loads (s .args .plan)) k (inside (c .before)) in
+    ap (λ (n : ℕ). n * (2 * s .args .header .step + 1)) (c .loss .ensures ∙ loss-counted (planesOf (s .args .header) k - loads (s .args .plan) k) (omega (arith, few)))
 
 own-small : (c : tie.After-loss Inv-loop μ-loop) → c .loss .result * (2 * S (c .before .before .before) .args .header .step + 1) ≤ 2 ^ 56
 own-small c =
@@ -51,10 +60,10 @@ own-small c =
     omega (arith, own-is c, own-most (rightly s) (loads (s .args .plan)) (c .before .before .loop .k) (inside (c .before)))
 
 -- what stands
-small : (l : tie.At-loop Inv-loop μ-loop) → l .loop .standing ≤ 2 ^ 46
+small : (l : tie.At-loop Inv-loop μ-loop) → l .loop .standing ≤ standingMost
 small l =
     let s = S (l .before) in
-    omega (arith, l .loop .inv .1, standing-most (rightly s) (loads (s .args .plan)) (l .loop .k) (omega (arith, l .loop .inv .0)))
+    omega (arith, l .loop .inv .1, standing-most (rightly s) (loads (s .args .plan)) (l .loop .k) (omega (arith, l .loop .inv .0, all (l .before))))
 
 mul-width : tie.Need-mul-width Inv-loop μ-loop
 mul-width c = omega (arith, rightly (c .before .before .before .before) .step)
@@ -62,15 +71,12 @@ mul-width c = omega (arith, rightly (c .before .before .before .before) .step)
 add-width : tie.Need-add-width Inv-loop μ-loop
 add-width c = omega (arith, rightly (c .before .before .before .before) .step)
 
-mul-layers : tie.Need-mul-layers Inv-loop μ-loop
-mul-layers c = omega (arith, few (S c))
-
-add-layers : tie.Need-add-layers Inv-loop μ-loop
-add-layers c = omega (arith, few (S c))
+layer-count-requires : tie.Need-layer-count-requires Inv-loop μ-loop
+layer-count-requires c κs = tt
 
 loop-holds : tie.Need-loop-holds Inv-loop μ-loop
 unfolding C.standing
-loop-holds c = (omega arith, refl)
+loop-holds c = (omega arith, omega arith)
 
 mul-loss : tie.Need-mul-loss Inv-loop μ-loop
 mul-loss c = omega (arith, inside c)
@@ -90,9 +96,7 @@ sub-loss c =
     over-none (planesOf (s .args .header)) (loads (s .args .plan)) (s .pre .1) (c .before .loop .k) (inside c)
 
 loss-requires : tie.Need-loss-requires Inv-loop μ-loop
-loss-requires c κs =
-    let s = S (c .before .before) in
-    missing-few (rightly s) (loads (s .args .plan)) (c .before .loop .k) (inside c)
+loss-requires c κs = tt
 
 mul-own : tie.Need-mul-own Inv-loop μ-loop
 mul-own c = omega (arith, own-small c)
@@ -100,7 +104,7 @@ mul-own c = omega (arith, own-small c)
 standing-after-requires : tie.Need-standing-after-requires Inv-loop μ-loop
 standing-after-requires c κs =
     let l = c .before .before in
-    (rightly (S (l .before)) .shape, omega (arith, c .before .loop-test .taken), omega (arith, small l), own-small c)
+    (rightly (S (l .before)) .shape, within (c .before), omega (arith, small l), own-small c)
 
 add-k : tie.Need-add-k Inv-loop μ-loop
 add-k c = omega (arith, inside (c .before .before))
@@ -128,8 +132,8 @@ unfolding figureOf
 returns c =
     let l = c .before .before in
     let h = S (l .before) .args .header in
-    let all : l .loop .k ≡ layers (h .shape) = omega (arith, l .loop .inv .0, c .before .loop-test .left) in
-    omega (arith, l .loop .inv .1, ap (C.standing (h .shape) (h .curve) (ownLoss h (loads (S (l .before) .args .plan)))) all)
+    let last : l .loop .k ≡ layers (h .shape) = omega (arith, l .loop .inv .0, c .before .loop-test .left, all (l .before)) in
+    omega (arith, l .loop .inv .1, ap (C.standing (h .shape) (h .curve) (ownLoss h (loads (S (l .before) .args .plan)))) last)
 
 pub figure-of-spec : {M : Type 1} → statement M
 figure-of-spec =
@@ -139,8 +143,7 @@ figure-of-spec =
     μ-loop
     mul-width
     add-width
-    mul-layers
-    add-layers
+    layer-count-requires
     loop-holds
     mul-loss
     array-read-loss

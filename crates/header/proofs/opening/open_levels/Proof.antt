@@ -1,4 +1,4 @@
--- By the line that was read: with its number, at most 6, the shape is an accepted one.
+-- By the line that was read: with its number, at most `levelsMost`, the shape is an accepted one.
 use mathlib.Core.Path.{_≡_, refl, _∙_}
 use native.Mathlib.Omega.{arith}
 use lib.ListN.{drop}

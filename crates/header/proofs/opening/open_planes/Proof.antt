@@ -1,5 +1,5 @@
 -- By cases on the tests: `find` gives the end of the line, `starts_with` its key and `read_counts` its counts, which are the parts of the line. Each count is at
--- most 23, so the cells fit.
+-- most `placesMost`, so the cells fit.
 use mathlib.Core.Bool.{true}
 use mathlib.Core.List.{List}
 use mathlib.Core.Path.{_≡_, refl, _∙_}

@@ -17,7 +17,7 @@ use Rattle.header.specs.CardOrder.{cellsBefore, cellsThrough, cellsBefor
 use Rattle.header.proofs.Rightness.{Right, right-yes, all-few, counts-past}
 use Rattle.header.proofs.Cells.{cells-there}
 use Rattle.header.proofs.CardOrder.{cells-through}
-use Rattle.header.proofs.Through.{Small, width-most}
+use Rattle.header.proofs.Through.{Small, span-most}
 use Rattle.header.proofs.planes.cells_before.Statement.{statement}
 use Rattle.header.proofs.planes.cells_before.Tie as tie
 
@@ -30,7 +30,7 @@ is-so e = sym (e .before .is-right .ensures) ∙ not-false _ (e .if1 .left)
 rightly : (e : tie.Else1) → Right (S e .args .header)
 rightly e = right-yes (S e .args .header) (is-so e)
 
-long : (s : tie.Start) → length (s .args .header .planes) ≡ 13
+long : (s : tie.Start) → length (s .args .header .planes) ≡ layersMost
 long s = search needs
 
 -- a layer that has the plane is one of the sheet's
@@ -52,15 +52,15 @@ through-is c =
     let e = E (c .before .before) in
     let h = S e .args .header in
     c .cells-through .ensures
-    ∙ ap (λ (ws : List ℕ). cellsThrough ws (h .planes) (S e .args .layer) (S e .args .p)) (c .before .widths-of .ensures)
+    ∙ ap (λ (ws : List ℕ). cellsThrough ws (h .planes) (S e .args .layer) (S e .args .p)) (c .before .spans-of .ensures)
     ∙ cells-through h (rightly e) (S e .args .layer) (S e .args .p) (inside (c .before .before))
 
-own-is : (c : tie.After-cells-through) → (let e = E (c .before .before) in getD (c .before .widths-of .result) (S e .args .layer) 0 ≡ planeCells (S e .args .header .shape) (S e .args .layer))
+own-is : (c : tie.After-cells-through) → (let e = E (c .before .before) in getD (c .before .spans-of .result) (S e .args .layer) 0 ≡ planeCells (S e .args .header .shape) (S e .args .layer))
 own-is c =
     let e = E (c .before .before) in
     let h = S e .args .header in
     let k = S e .args .layer in
-    ap (λ (ws : List ℕ). getD ws k 0) (c .before .widths-of .ensures)
+    ap (λ (ws : List ℕ). getD ws k 0) (c .before .spans-of .ensures)
     ∙ getD-tabulate layersMost (cellsAt (h .shape)) k 0 (c .before .before .before .if2 .left)
     ∙ cells-there (h .shape) (rightly e .shape) k (inside (c .before .before))
 
@@ -85,15 +85,15 @@ returns-3 : tie.Need-returns-3
 unfolding cellsBeforeIn
 returns-3 c = rw (is-so (c .before .before .before), lt-ltb _ _ (c .before .if2 .left), le-ltb _ _ (c .if3 .taken))
 
-widths-of-requires : tie.Need-widths-of-requires
-widths-of-requires c κs = search needs
+spans-of-requires : tie.Need-spans-of-requires
+spans-of-requires c κs = search needs
 
 cells-through-requires : tie.Need-cells-through-requires
 cells-through-requires c κs =
     let e = E (c .before) in
     let s = S e in
-    let small : Small (c .widths-of .result) (s .args .header .planes) =
-    λ j. (rw (c .widths-of .ensures) (width-most (s .args .header .shape) j), all-few (s .args .header .shape) (s .args .header .planes) (long s) (rightly e .counts) j) in
+    let small : Small (c .spans-of .result) (s .args .header .planes) =
+    λ j. (rw (c .spans-of .ensures) (span-most (s .args .header .shape) j), all-few (s .args .header .shape) (s .args .header .planes) (long s) (rightly e .counts) j) in
     (c .before .before .if2 .left, small, omega (arith, c .before .if3 .left, small (s .args .layer) .1))
 
 mul-result : tie.Need-mul-result
@@ -121,7 +121,7 @@ cells-before-spec =
     mul-if3
     array-read-if3
     returns-3
-    widths-of-requires
+    spans-of-requires
     cells-through-requires
     mul-result
     array-read-result

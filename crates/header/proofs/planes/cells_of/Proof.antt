@@ -1,12 +1,13 @@
--- Invariant: the sum so far is that of the layers passed. With this turn's layer it is a part of the sum of all, which is at most 1,012.
-use mathlib.Core.Path.{_≡_, refl, ap, ap₂, _∙_}
-use Prim.Native.Nat.{ℕ, suc, _≤_, _+_, _*_, _-_}
+-- Invariant: the sum so far is that of the layers passed, and the layers counted are the sheet's. With this turn's layer it is a part of the sum of all, which is at most `cellsMost`.
+use mathlib.Core.Path.{_≡_, ap, ap₂, _∙_}
+use Prim.Native.Nat.{ℕ, suc, _<_, _≤_, _+_, _*_, _-_}
 use native.Mathlib.Numerals.{add-one}
 use native.Mathlib.Omega.{arith}
 use lib.ListN.{getD}
-use borrow.Author.Needs.{needs}
-use Rattle.layers.proofs.Accepting.{Sheet, accepted-yes}
+use Rattle.layers.specs.Limits.{layersMost}
 use Rattle.layers.specs.Lists.{total}
+use Rattle.layers.specs.Sheet.{layers}
+use Rattle.layers.proofs.Accepting.{accepted-yes, count-is}
 use Rattle.header.specs.Header.{cellsMost, planeCells, cellsOf}
 use Rattle.header.proofs.Cells.{cells-there}
 use Rattle.header.proofs.Total.{part-most}
@@ -20,15 +21,23 @@ Inv-loop shape planes layers cells₀ k₀ cells k = (k ≤ layers) × (cells �
 abbrev μ-loop : tie.MeasureT-loop
 μ-loop shape planes layers cells₀ k₀ cells k = layers - k
 
-ok : (s : tie.Start Inv-loop μ-loop) → Sheet (s .args .shape)
-ok s = accepted-yes (s .args .shape) (s .pre .0)
-
 abbrev S : tie.After-plane-cells Inv-loop μ-loop → tie.Start Inv-loop μ-loop
 S c = c .before .before .before .before
 
+-- the layers that are counted are the sheet's
+all : (c : tie.After-layer-count Inv-loop μ-loop) → c .layer-count .result ≡ layers (c .before .args .shape)
+all c = c .layer-count .ensures ∙ count-is (c .before .args .shape) (c .before .pre .0)
+
+-- so this turn's is one of them, and one of those that there may be
+within : (i : tie.In-loop Inv-loop μ-loop) → i .before .loop .k < layers (i .before .before .before .args .shape)
+within i = omega (arith, i .loop-test .taken, all (i .before .before))
+
+inside : (i : tie.In-loop Inv-loop μ-loop) → i .before .loop .k < layersMost
+inside i = let s = i .before .before .before in omega (arith, within i, accepted-yes (s .args .shape) (s .pre .0) .shallow)
+
 -- the cells of this turn's layer
 here : (c : tie.After-plane-cells Inv-loop μ-loop) → c .plane-cells .result * getD (S c .args .t2) (c .before .before .loop .k) 0 ≡ planeCells (S c .args .shape) (c .before .before .loop .k) * getD (S c .args .t2) (c .before .before .loop .k) 0
-here c = ap (λ (n : ℕ). n * getD (S c .args .t2) (c .before .before .loop .k) 0) (c .plane-cells .ensures ∙ cells-there (S c .args .shape) (S c .pre .0) (c .before .before .loop .k) (omega arith))
+here c = ap (λ (n : ℕ). n * getD (S c .args .t2) (c .before .before .loop .k) 0) (c .plane-cells .ensures ∙ cells-there (S c .args .shape) (S c .pre .0) (c .before .before .loop .k) (within (c .before)))
 
 fits : (c : tie.After-plane-cells Inv-loop μ-loop) → c .before .before .loop .cells + planeCells (S c .args .shape) (c .before .before .loop .k) * getD (S c .args .t2) (c .before .before .loop .k) 0 ≤ cellsMost
 fits c =
@@ -38,27 +47,24 @@ fits c =
       arith,
       c .before .before .loop .inv .1,
       total-suc (λ j. planeCells (s .args .shape) j * getD (s .args .t2) j 0) k,
-      part-most (s .args .shape) (s .pre .0) (s .args .t2) (λ j _. s .pre .1 j) (suc k) (omega arith),
+      part-most (s .args .shape) (s .pre .0) (s .args .t2) (λ j _. s .pre .1 j) (suc k) (within (c .before)),
     )
 
-mul-layers : tie.Need-mul-layers Inv-loop μ-loop
-mul-layers c = omega (arith, ok (c .before) .shallow)
-
-add-layers : tie.Need-add-layers Inv-loop μ-loop
-add-layers c = omega (arith, ok (c .before) .shallow)
+layer-count-requires : tie.Need-layer-count-requires Inv-loop μ-loop
+layer-count-requires c κs = tt
 
 loop-holds : tie.Need-loop-holds Inv-loop μ-loop
 unfolding total
-loop-holds c = (omega arith, refl)
+loop-holds c = (omega arith, omega arith)
 
 plane-cells-requires : tie.Need-plane-cells-requires Inv-loop μ-loop
-plane-cells-requires c κs = search needs
+plane-cells-requires c κs = tt
 
 mul-cells : tie.Need-mul-cells Inv-loop μ-loop
-mul-cells c = omega (arith, ok (S c) .shallow)
+mul-cells c = omega (arith, inside (c .before))
 
 array-read-cells : tie.Need-array-read-cells Inv-loop μ-loop
-array-read-cells c = omega (arith, ok (S c) .shallow)
+array-read-cells c = inside (c .before)
 
 mul-cells-2 : tie.Need-mul-cells-2 Inv-loop μ-loop
 mul-cells-2 c = omega (arith, here c, fits c)
@@ -67,7 +73,7 @@ add-cells : tie.Need-add-cells Inv-loop μ-loop
 add-cells c = omega (arith, here c, fits c)
 
 add-k : tie.Need-add-k Inv-loop μ-loop
-add-k c = omega (arith, ok (S c) .shallow)
+add-k c = omega (arith, inside (c .before))
 
 loop-less : tie.Need-loop-less Inv-loop μ-loop
 loop-less c = omega arith
@@ -78,7 +84,7 @@ loop-again c = (omega arith, rw add-one (ap₂ (λ (a b : ℕ). a + b) (c .befor
 
 returns : tie.Need-returns Inv-loop μ-loop
 unfolding cellsOf
-returns c = c .before .loop .inv .1 ∙ ap (total (λ j. planeCells (c .before .before .before .args .shape) j * getD (c .before .before .before .args .t2) j 0)) (omega arith)
+returns c = c .before .loop .inv .1 ∙ ap (total (λ j. planeCells (c .before .before .before .args .shape) j * getD (c .before .before .before .args .t2) j 0)) (omega (arith, all (c .before .before)))
 
 pub cells-of-spec : {M : Type 1} → statement M
 cells-of-spec =
@@ -86,8 +92,7 @@ cells-of-spec =
     (tie.spec
     Inv-loop
     μ-loop
-    mul-layers
-    add-layers
+    layer-count-requires
     loop-holds
     plane-cells-requires
     mul-cells

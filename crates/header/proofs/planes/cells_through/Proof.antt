@@ -10,6 +10,7 @@ use lib.Dec.{ltb}
 use lib.ListN.{getD}
 use Rattle.layers.specs.Limits.{layersMost}
 use Rattle.layers.specs.Lists.{total}
+use Rattle.header.specs.Header.{placesMost, planeCellsMost}
 use Rattle.header.specs.CardOrder.{cellsThrough}
 use Rattle.header.proofs.Totals.{total-suc}
 use Rattle.header.proofs.Through.{share, share-most, shares-most}
@@ -17,10 +18,10 @@ use Rattle.header.proofs.planes.cells_through.Statement.{statement}
 use Rattle.header.proofs.planes.cells_through.Tie as tie
 
 abbrev Inv-loop : tie.InvT-loop
-Inv-loop k p widths planes cells₀ j₀ cells j = (j ≤ 13) × (cells ≡ getD widths k 0 + total (share widths planes k p) j)
+Inv-loop k p spans planes cells₀ j₀ cells j = (j ≤ layersMost) × (cells ≡ getD spans k 0 + total (share spans planes k p) j)
 
 abbrev μ-loop : tie.MeasureT-loop
-μ-loop k p widths planes cells₀ j₀ cells j = 13 - j
+μ-loop k p spans planes cells₀ j₀ cells j = layersMost - j
 
 abbrev S : tie.Joined1 Inv-loop μ-loop → tie.Start Inv-loop μ-loop
 S c = c .before .before .before
@@ -47,10 +48,10 @@ share-is c =
     (c .if2 .came)
 
 -- what a layer has is small, and so is the sum
-small : (c : tie.Joined1 Inv-loop μ-loop) → T c ≤ 736
+small : (c : tie.Joined1 Inv-loop μ-loop) → T c ≤ planeCellsMost * placesMost
 small c = share-most (S c .args .t1) (S c .args .t2) (S c .args .k) (S c .pre .1) (S c .args .p) (c .before .before .loop .j)
 
-so-far : (l : tie.At-loop Inv-loop μ-loop) → l .loop .cells ≤ 32 + 736 * l .loop .j
+so-far : (l : tie.At-loop Inv-loop μ-loop) → l .loop .cells ≤ planeCellsMost + l .loop .j * (planeCellsMost * placesMost)
 so-far l =
     let s = l .before in
     omega (arith, l .loop .inv .1, s .pre .1 (s .args .k) .0, shares-most (s .args .t1) (s .args .t2) (s .args .k) (s .pre .1) (s .args .p) (l .loop .j))

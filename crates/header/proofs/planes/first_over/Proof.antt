@@ -5,15 +5,16 @@ use native.Mathlib.Nat.{not-suc-le-zero}
 use native.Mathlib.Omega.{arith}
 use lib.ListN.{getD}
 use borrow.Author.Count.{below-more}
+use Rattle.layers.specs.Limits.{layersMost}
 use Rattle.header.proofs.Over.{none-over, over-first}
 use Rattle.header.proofs.planes.first_over.Statement.{statement}
 use Rattle.header.proofs.planes.first_over.Tie as tie
 
 abbrev Inv-loop : tie.InvT-loop
-Inv-loop limit plan k₀ k = (k ≤ 13) × ((m : ℕ) → m < k → getD plan m 0 ≤ getD limit m 0)
+Inv-loop limit plan k₀ k = (k ≤ layersMost) × ((m : ℕ) → m < k → getD plan m 0 ≤ getD limit m 0)
 
 abbrev μ-loop : tie.MeasureT-loop
-μ-loop limit plan k₀ k = 13 - k
+μ-loop limit plan k₀ k = layersMost - k
 
 loop-holds : tie.Need-loop-holds Inv-loop μ-loop
 loop-holds c = (omega arith, λ m h. absurd (not-suc-le-zero h))

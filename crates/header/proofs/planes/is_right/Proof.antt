@@ -1,4 +1,4 @@
--- The tests in turn, each the test of `right` at its place. The limits of the 13 layers are those of the shape, so a count that passes is at most 23, as the sum of the cells asks.
+-- The tests in turn, each the test of `right` at its place. The limits are those of the shape's layers, so a count that passes is at most `placesMost`, as the sum of the cells asks.
 use Prim.Native.Nat.{ℕ}
 use mathlib.Core.Bool.{true, false}
 use mathlib.Core.List.{List}
@@ -43,7 +43,7 @@ none-is c =
     let h = S (A (c .before)) .args .header in
     omega (arith, over-is (c .before), c .if3 .left, over-le (planesMost (h .shape)) (planesOf h))
 
-long : (s : tie.Start) → length (s .args .header .planes) ≡ 13
+long : (s : tie.Start) → length (s .args .header .planes) ≡ layersMost
 long s = search needs
 
 accepted-requires : tie.Need-accepted-requires

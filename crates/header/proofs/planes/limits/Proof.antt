@@ -2,16 +2,17 @@
 use Prim.Native.Nat.{_≤_, _-_}
 use mathlib.Core.Path.{refl}
 use native.Mathlib.Omega.{arith}
+use Rattle.layers.specs.Limits.{layersMost}
 use Rattle.header.specs.Opening.{planesMost}
 use Rattle.header.proofs.Fills.{Filled, filled-none, filled-more, filled-all}
 use Rattle.header.proofs.planes.limits.Statement.{statement}
 use Rattle.header.proofs.planes.limits.Tie as tie
 
 abbrev Inv-loop : tie.InvT-loop
-Inv-loop shape most₀ k₀ most k = (k ≤ 13) × Filled (planesMost shape) 13 k most
+Inv-loop shape most₀ k₀ most k = (k ≤ layersMost) × Filled (planesMost shape) layersMost k most
 
 abbrev μ-loop : tie.MeasureT-loop
-μ-loop shape most₀ k₀ most k = 13 - k
+μ-loop shape most₀ k₀ most k = layersMost - k
 
 loop-holds : tie.Need-loop-holds Inv-loop μ-loop
 loop-holds c = (omega arith, filled-none _ _ _ refl)

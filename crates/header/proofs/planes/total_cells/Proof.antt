@@ -1,4 +1,4 @@
--- The tests in turn, each the test of `cellsNamed` at its place; a count within its limit is at most 23, as the sum of the cells asks.
+-- The tests in turn, each the test of `cellsNamed` at its place; a count within its limit is at most `placesMost`, as the sum of the cells asks.
 use Prim.Native.Nat.{ℕ}
 use mathlib.Core.Bool.{true, false}
 use mathlib.Core.List.{List}
@@ -45,7 +45,7 @@ none-is c =
     let s = S (A (c .before)) in
     omega (arith, over-is (c .before), c .if2 .left, over-le (planesMost (s .args .shape)) (counts s))
 
-long : (s : tie.Start) → length (s .args .planes) ≡ 13
+long : (s : tie.Start) → length (s .args .planes) ≡ layersMost
 long s = search needs
 
 accepted-requires : tie.Need-accepted-requires

@@ -9,11 +9,11 @@ use Rattle.header.proofs.planes.whole_of.Statement.{statement}
 use Rattle.header.proofs.planes.whole_of.Tie as tie
 
 abbrev Inv-loop : tie.InvT-loop
-Inv-loop widths k n planes left₀ found₀ left found =
-    (found + left ≡ getD planes k 0) × (found + count (there widths planes k n) left ≡ count (there widths planes k n) (getD planes k 0))
+Inv-loop spans k n planes left₀ found₀ left found =
+    (found + left ≡ getD planes k 0) × (found + count (there spans planes k n) left ≡ count (there spans planes k n) (getD planes k 0))
 
 abbrev μ-loop : tie.MeasureT-loop
-μ-loop widths k n planes left₀ found₀ left found = left
+μ-loop spans k n planes left₀ found₀ left found = left
 
 mul-left : tie.Need-mul-left Inv-loop μ-loop
 mul-left c = omega arith
@@ -36,13 +36,13 @@ cells-through-requires c κs =
 mul-if1 : tie.Need-mul-if1 Inv-loop μ-loop
 mul-if1 c =
     let s = c .before .before .before in
-    omega (arith, c .cells-through .ensures, through-most (s .args .widths) (s .args .t2) (s .args .k) (s .pre .1) (c .before .before .loop .left - 1))
+    omega (arith, c .cells-through .ensures, through-most (s .args .spans) (s .args .t2) (s .args .k) (s .pre .1) (c .before .before .loop .left - 1))
 
 returns : tie.Need-returns Inv-loop μ-loop
 returns c =
     let l = c .before .before .before in
     let s = l .before in
-    omega (arith, l .loop .inv .1, there-none (s .args .widths) (s .args .t2) (s .args .k) (s .args .n) (l .loop .left) (c .before .before .loop-test .taken) (omega (arith, c .before .cells-through .ensures, c .if1 .taken)))
+    omega (arith, l .loop .inv .1, there-none (s .args .spans) (s .args .t2) (s .args .k) (s .args .n) (l .loop .left) (c .before .before .loop-test .taken) (omega (arith, c .before .cells-through .ensures, c .if1 .taken)))
 
 sub-left : tie.Need-sub-left Inv-loop μ-loop
 sub-left c = omega arith
@@ -61,7 +61,7 @@ loop-again c =
     let l = c .before .before .before in
     let s = l .before in (
       omega (arith, l .loop .inv .0, c .before .before .loop-test .taken),
-      omega (arith, l .loop .inv .1, there-more (s .args .widths) (s .args .t2) (s .args .k) (s .args .n) (l .loop .left) (c .before .before .loop-test .taken) (omega (arith, c .before .cells-through .ensures, c .if1 .left))),
+      omega (arith, l .loop .inv .1, there-more (s .args .spans) (s .args .t2) (s .args .k) (s .args .n) (l .loop .left) (c .before .before .loop-test .taken) (omega (arith, c .before .cells-through .ensures, c .if1 .left))),
     )
 
 returns-2 : tie.Need-returns-2 Inv-loop μ-loop
@@ -70,7 +70,7 @@ returns-2 c =
     let l = c .before in
     let s = l .before in
     let none : l .loop .left ≡ 0 = omega (arith, c .loop-test .left) in
-    omega (arith, l .loop .inv .1, ap (count (there (s .args .widths) (s .args .t2) (s .args .k) (s .args .n))) none)
+    omega (arith, l .loop .inv .1, ap (count (there (s .args .spans) (s .args .t2) (s .args .k) (s .args .n))) none)
 
 pub whole-of-spec : {M : Type 1} → statement M
 whole-of-spec =

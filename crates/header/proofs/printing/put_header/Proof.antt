@@ -8,12 +8,13 @@ use mir.Syntax.{w64}
 use mir.Val.{Fits}
 use native.Mathlib.Nat.{le-trans}
 use borrow.Author.Needs.{needs}
-use Rattle.layers.specs.Limits.{layersMost}
+use Rattle.layers.specs.Sheet.{layerCount}
 use Rattle.text.specs.Decimal.{digits}
-use Rattle.text.specs.Line.{lineText}
+use Rattle.text.specs.Line.{newline, lineText}
 use Rattle.text.proofs.Lines.{line-length}
 use Rattle.header.specs.declared.Header.{Header}
-use Rattle.header.specs.Header.{asciiFrom, curveText, listText, listed, planesOf, headerText}
+use Rattle.header.specs.Header.{asciiFrom, curveText, listText, planesOf, headerText}
+use Rattle.layers.proofs.LayerCounts.{count-some, count-few}
 use Rattle.header.proofs.TextLength.{text-length, text-fits}
 use Rattle.header.proofs.Stores.{put-none, put-more, put-run, put-byte, put-all}
 use Rattle.header.proofs.printing.put_header.Statement.{statement}
@@ -48,14 +49,6 @@ abbrev G : tie.After-put-list → tie.After-put-bytes2
 G c = c .before .before .before .before .before
 
 -- ---- room
-listed-some : (levels : ℕ) → 0 < listed levels
-unfolding listed
-listed-some levels = omega arith
-
-listed-few : (levels : ℕ) → listed levels ≤ layersMost
-unfolding listed
-listed-few levels = omega arith
-
 number : (s : tie.Start) (k : ℕ) → planesOf (H s) k < 2 ^ 64
 number s k = let f : Fits w64 (getD (H s .planes) k 0) = search needs in f .fits
 
@@ -84,7 +77,7 @@ module _ (s : tie.Start) where
   n5 = n4 + 6 + length (digits (H s .step))
 
   abbrev n6 : ℕ
-  n6 = n5 + 8 + length (listText (take (listed (H s .shape .levels)) (H s .planes)))
+  n6 = n5 + 8 + length (listText (take (layerCount (H s .shape)) (H s .planes)))
 
   abbrev n7 : ℕ
   n7 = n6 + 7 + length (digits (H s .cells))
@@ -104,7 +97,7 @@ third c = let p = second (B c) in record { ends = omega (arith, p .ends, simp li
 key : (c : tie.After-put-bytes) → Upto (S (A (B (C c)))) (c .put-bytes .last .0) (c .put-bytes .result) (n3 (S (A (B (C c)))) + 6)
 key c = let p = third (C c) in record { ends = omega (arith, p .ends, c .put-bytes .ensures .0); long = c .put-bytes .kept .0 ∙ p .long }
 
-fourth : (c : tie.After-put-curve) → Upto (S (A (B (C (D c))))) (set (c .put-curve .last .0) (c .put-curve .result) 10) (c .put-curve .result + 1) (n4 (S (A (B (C (D c))))))
+fourth : (c : tie.After-put-curve) → Upto (S (A (B (C (D c))))) (set (c .put-curve .last .0) (c .put-curve .result) newline) (c .put-curve .result + 1) (n4 (S (A (B (C (D c))))))
 fourth c = let p = key (D c) in record { ends = omega (arith, p .ends, c .put-curve .ensures .0); long = simp length-set (c .put-curve .kept .0 ∙ p .long) }
 
 fifth : (c : tie.After-put-line4) → Upto (S (A (B (C (D (E c)))))) (c .put-line4 .last .0) (c .put-line4 .result) (n5 (S (A (B (C (D (E c)))))))
@@ -113,8 +106,8 @@ fifth c = let p = fourth (E c) in record { ends = omega (arith, p .ends, simp li
 key-2 : (c : tie.After-put-bytes2) → Upto (S (A (B (C (D (E (F c))))))) (c .put-bytes2 .last .0) (c .put-bytes2 .result) (n5 (S (A (B (C (D (E (F c))))))) + 7)
 key-2 c = let p = fifth (F c) in record { ends = omega (arith, p .ends, c .put-bytes2 .ensures .0); long = c .put-bytes2 .kept .0 ∙ p .long }
 
-sixth : (c : tie.After-put-list) → Upto (S (A (B (C (D (E (F (G c)))))))) (set (c .put-list .last .0) (c .put-list .result) 10) (c .put-list .result + 1) (n6 (S (A (B (C (D (E (F (G c)))))))))
-sixth c = let p = key-2 (G c) in record { ends = omega (arith, p .ends, rw (c .before .listed .ensures) at (c .put-list .ensures .0)); long = simp length-set (c .put-list .kept .0 ∙ p .long) }
+sixth : (c : tie.After-put-list) → Upto (S (A (B (C (D (E (F (G c)))))))) (set (c .put-list .last .0) (c .put-list .result) newline) (c .put-list .result + 1) (n6 (S (A (B (C (D (E (F (G c)))))))))
+sixth c = let p = key-2 (G c) in record { ends = omega (arith, p .ends, rw (c .before .layer-count .ensures) at (c .put-list .ensures .0)); long = simp length-set (c .put-list .kept .0 ∙ p .long) }
 
 slice-aggregate-put-line : tie.Need-slice-aggregate-put-line
 slice-aggregate-put-line c = search needs
@@ -186,21 +179,21 @@ put-bytes-requires-2 c κs =
     let p = fifth l in
     omega (arith, p .ends, p .long, room (S (A (B (C (D (E l)))))))
 
-listed-requires : tie.Need-listed-requires
-listed-requires c κs = search needs
+layer-count-requires : tie.Need-layer-count-requires
+layer-count-requires c κs = search needs
 
 put-list-requires : tie.Need-put-list-requires
 put-list-requires c κs =
     let l = c .before .before .before .before in
     let p = key-2 l in
     let s = S (A (B (C (D (E (F l)))))) in
-    rw (c .listed .ensures) (listed-some (H s .shape .levels), listed-few (H s .shape .levels), omega (arith, p .ends, p .long, room s))
+    rw (c .layer-count .ensures) (count-some (H s .shape), count-few (H s .shape), omega (arith, p .ends, p .long, room s))
 
 slice-write-out-2 : tie.Need-slice-write-out-2
 slice-write-out-2 c =
     let l = c .before .before in
     let p = key-2 (G l) in
-    omega (arith, p .ends, p .long, rw (l .before .listed .ensures) at (l .put-list .ensures .0), l .put-list .kept .0, room (S (A (B (C (D (E (F (G l)))))))))
+    omega (arith, p .ends, p .long, rw (l .before .layer-count .ensures) at (l .put-list .ensures .0), l .put-list .kept .0, room (S (A (B (C (D (E (F (G l)))))))))
 
 add-put-line-2 : tie.Need-add-put-line-2
 add-put-line-2 c =
@@ -242,8 +235,8 @@ returns c =
     let p4 = put-run p3 (put-byte _ (put-more (curveText (h .curve)) _ _ q4 (l4 .put-curve .ensures .0) (l4 .put-curve .ensures .1))) in
     let p5 = put-more (lineText _ (h .step)) _ _ p4 (l5 .put-line4 .ensures .0) (l5 .put-line4 .ensures .1) in
     let q6 = put-more (_ ∷ _ ∷ _ ∷ _ ∷ _ ∷ _ ∷ _ ∷ []) _ _ (put-none (l5 .put-line4 .last .0) (l5 .put-line4 .result)) (k6 .put-bytes2 .ensures .0) (k6 .put-bytes2 .ensures .1) in
-    let list = listText (take (listed (h .shape .levels)) (h .planes)) in
-    let p6 = put-run p5 (put-byte _ (put-more list _ _ q6 (rw (l6 .before .listed .ensures) at (l6 .put-list .ensures .0)) (rw (l6 .before .listed .ensures) at (l6 .put-list .ensures .1)))) in
+    let list = listText (take (layerCount (h .shape)) (h .planes)) in
+    let p6 = put-run p5 (put-byte _ (put-more list _ _ q6 (rw (l6 .before .layer-count .ensures) at (l6 .put-list .ensures .0)) (rw (l6 .before .layer-count .ensures) at (l6 .put-list .ensures .1)))) in
     let p7 = put-more (lineText _ (h .cells)) _ _ p6 (l7 .put-line5 .ensures .0) (l7 .put-line5 .ensures .1) in
     put-all (headerText h) p7 refl
 
@@ -266,7 +259,7 @@ put-header-spec =
     put-line-requires-4
     slice-aggregate-put-bytes-2
     put-bytes-requires-2
-    listed-requires
+    layer-count-requires
     put-list-requires
     slice-write-out-2
     add-put-line-2

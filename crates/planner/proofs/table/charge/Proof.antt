@@ -1,9 +1,11 @@
--- A right header has at most 23 planes of a layer and a step of at most 65,535, so the product is far below 2^40.
-use mathlib.Core.Path.{_≡_, ap}
-use Prim.Native.Nat.{ℕ, _+_, _*_, _≤_, _^_}
+-- A right header has at most `placesMost` planes of a layer, so that `loss` counts all that are missing, and a step of at most `stepMost`, so the product is far below 2^40.
+use mathlib.Core.Path.{_≡_, ap, _∙_}
+use Prim.Native.Nat.{ℕ, _+_, _-_, _*_, _≤_, _^_}
 use native.Mathlib.Omega.{arith}
 use borrow.Author.Needs.{needs}
+use Rattle.digits.proofs.Losses.{loss-counted}
 use Rattle.layers.specs.Prediction.{width}
+use Rattle.header.specs.Header.{planesOf}
 use Rattle.header.proofs.Rightness.{Right, right-yes}
 use Rattle.header.proofs.Figures.{missing-few, own-most}
 use Rattle.planner.specs.Table.{chargeOf}
@@ -18,7 +20,10 @@ S c = c .before .before
 
 own-is : (c : tie.After-loss) → c .loss .result * (2 * S c .args .header .step + 1) ≡ chargeOf (S c .args .header) (S c .args .k) (S c .args .n)
 unfolding chargeOf width
-own-is c = ap (λ (x : ℕ). x * (2 * S c .args .header .step + 1)) (c .loss .ensures)
+own-is c =
+    let s = S c in
+    let few = missing-few (rightly s) (λ _. s .args .n) (s .args .k) (s .pre .1) in
+    ap (λ (x : ℕ). x * (2 * s .args .header .step + 1)) (c .loss .ensures ∙ loss-counted (planesOf (s .args .header) (s .args .k) - s .args .n) (omega (arith, few)))
 
 own-small : (c : tie.After-loss) → chargeOf (S c .args .header) (S c .args .k) (S c .args .n) ≤ 2 ^ 40
 unfolding chargeOf
@@ -34,7 +39,7 @@ sub-loss : tie.Need-sub-loss
 sub-loss c = search needs
 
 loss-requires : tie.Need-loss-requires
-loss-requires c κs = let s = c .before in missing-few (rightly s) (λ _. s .args .n) (s .args .k) (s .pre .1)
+loss-requires c κs = tt
 
 mul-result : tie.Need-mul-result
 mul-result c = omega (arith, rightly (S (c .before)) .step)
