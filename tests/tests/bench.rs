@@ -1,28 +1,16 @@
-//! Every line of "Worked on the bench".
+//! Every line of "Worked on the bench", by the model; `comparison/bench.rs` has the calls by the
+//! proved code too.
 
 mod common;
 
-use common::{plan, refusal};
+use common::{bench, card_of, header_lines, plan, refusal};
 use trace_card_tests::model::digits::{digits_of, weight};
 use trace_card_tests::model::figure::{carry, loss};
 use trace_card_tests::model::predict::cubic;
 use trace_card_tests::model::program::shown;
 use trace_card_tests::model::{
-    figure, open, plan_by_cells, plan_by_limit, read, refine, show, write, Curve, Planned, Reached,
-    Refusal,
+    figure, open, plan_by_cells, plan_by_limit, read, refine, show, write, Curve, Reached, Refusal,
 };
-
-const HEADER: &[u8] = b"rows=1\ncols=5\nlevels=1\ncurve=linear\nstep=1\nplanes=5,1,0\ncells=6\n";
-
-/// The bench card, put together by hand: "first bytes of its planes 4 4 7 5 1 1".
-fn bench_card() -> Vec<u8> {
-    let mut card = HEADER.to_vec();
-    for first in [4, 4, 7, 5, 1, 1] {
-        card.push(first);
-        card.extend([0; 31]);
-    }
-    card
-}
 
 #[test]
 fn one_by_five_is_written() {
@@ -30,7 +18,7 @@ fn one_by_five_is_written() {
     let mut values = [99; 5];
     let mut output = vec![0x55; 32_768];
     let length = write(
-        &[10, 13, 11, 20, 30],
+        &bench::SAMPLES,
         1,
         5,
         1,
@@ -40,45 +28,40 @@ fn one_by_five_is_written() {
         &mut values,
         &mut output,
     );
-    assert_eq!(length, Ok(256));
-    // Anchors 3 4 10 in columns 0, 2, 4; then 1 0 in columns 1, 3.
-    assert_eq!(coefficients, [3, 1, 4, 0, 10]);
-    assert_eq!(values, [9, 13, 12, 21, 30]);
-    assert_eq!(HEADER.len(), 64);
-    assert_eq!(output[..256], bench_card());
-    assert!(output[256..].iter().all(|&byte| byte == 0x55));
+    assert_eq!(length, Ok(bench::CARD_BYTES as u64));
+    assert_eq!(coefficients, bench::COEFFICIENTS);
+    assert_eq!(values, bench::VALUES);
+    let rest = output.split_off(bench::CARD_BYTES);
+    assert_eq!(output, bench::card());
+    assert!(rest.iter().all(|&byte| byte == 0x55));
 }
 
 #[test]
 fn one_by_five_is_opened() {
-    let opened = open(&bench_card()).unwrap();
+    let opened = open(&bench::card()).unwrap();
     assert_eq!((opened.rows, opened.cols, opened.levels), (1, 5, 1));
     assert_eq!((opened.curve, opened.step), (Curve::Linear, 1));
     assert_eq!((&opened.planes[..], opened.cells), (&[5, 1, 0][..], 6));
-    assert_eq!(opened.header_length, 64);
-    assert_eq!(opened.print(), HEADER);
+    assert_eq!(opened.header_length, bench::HEADER_BYTES);
+    assert_eq!(opened.print(), card_of(&bench::LINES, &[]));
 }
 
 #[test]
 fn its_cuts_are_shown() {
-    let card = bench_card();
-    let shown = |length: usize| {
-        let mut coefficients = [99; 5];
-        let mut values = [99; 5];
-        let reached = show(&card[..length], &mut coefficients, &mut values)?;
-        Ok((reached.plan, values, reached.figure))
-    };
-    assert_eq!(shown(256), Ok((plan(&[5, 1]), [9, 13, 12, 21, 30], 1)));
-    assert_eq!(shown(160), Ok((plan(&[3]), [12, 12, 12, 24, 36], 10)));
-    let (loaded, _, reached) = shown(159).unwrap();
-    assert_eq!((loaded, reached), (plan(&[2]), 19));
-    assert_eq!(shown(64), Ok((plan(&[]), [0; 5], 67)));
-    assert_eq!(shown(63), Err(refusal(5, [0, 0])));
+    let card = bench::card();
+    for shown in bench::shown() {
+        let (mut coefficients, mut values) = ([99; 5], [99; 5]);
+        let reached = show(&card[..shown.length], &mut coefficients, &mut values);
+        assert_eq!(reached, Ok(shown.reached));
+        assert_eq!(values, shown.values);
+    }
+    let cut_in_header = show(&card[..63], &mut [99; 5], &mut [99; 5]);
+    assert_eq!(cut_in_header, Err(refusal(5, [0, 0])));
 }
 
 #[test]
 fn its_cut_is_read_and_refined_to_the_same() {
-    let card = &bench_card()[..160];
+    let card = &bench::card()[..160];
     let mut coefficients = [99; 5];
     let mut values = [99; 5];
     let none = read(card, &plan(&[]), &mut coefficients, &mut values).unwrap();
@@ -108,22 +91,17 @@ fn its_cut_is_read_and_refined_to_the_same() {
 
 #[test]
 fn its_plans() {
-    let card = bench_card();
-    let planned = |first: &[u64], cells, figure| {
-        Ok(Planned {
-            plan: plan(first),
-            cells,
-            figure,
-        })
-    };
-    assert_eq!(plan_by_limit(&card, 10), planned(&[3], 3, 10));
-    assert_eq!(plan_by_limit(&card, 9), planned(&[4], 4, 7));
+    let card = bench::card();
+    for (limit, planned) in bench::planned_by_limit() {
+        assert_eq!(plan_by_limit(&card, limit), Ok(planned));
+        // The planner works "as if every plane were there".
+        assert_eq!(plan_by_limit(&card[..64], limit), Ok(planned));
+    }
     assert_eq!(figure(&card, &plan(&[3, 1])), Ok(7), "3,1,0 ties");
-    assert_eq!(plan_by_limit(&card, 1), planned(&[5, 1], 6, 1));
     assert_eq!(plan_by_limit(&card, 0), Err(refusal(10, [0, 0])));
-    assert_eq!(plan_by_cells(&card, 5), planned(&[5], 5, 4));
-    // The planner works "as if every plane were there".
-    assert_eq!(plan_by_limit(&card[..64], 9), planned(&[4], 4, 7));
+    for (cells, planned) in bench::planned_by_cells() {
+        assert_eq!(plan_by_cells(&card, cells), Ok(planned));
+    }
 }
 
 #[test]
@@ -215,19 +193,14 @@ fn sizes_steps_and_samples_at_their_ends() {
 
 #[test]
 fn the_program_prints() {
-    let card = bench_card();
+    let card = bench::card();
     assert_eq!(
         shown(&card[..160]),
         "rows=1\ncols=5\nloaded=3,0,0\nfigure=10\nrow=12,12,12,24,36\n"
     );
     assert_eq!(shown(&card[..63]), "refused=5\n");
     // "a minus sign before negative ones"; -1 is 11 in digits, and each row has its line.
-    let mut two_rows =
-        b"rows=2\ncols=1\nlevels=0\ncurve=linear\nstep=0\nplanes=2\ncells=2\n".to_vec();
-    for first in [2, 3] {
-        two_rows.push(first);
-        two_rows.extend([0; 31]);
-    }
+    let two_rows = card_of(&header_lines((2, 1), 0, "linear", 0, &[2], 2), &[2, 3]);
     assert_eq!(
         shown(&two_rows),
         "rows=2\ncols=1\nloaded=2\nfigure=0\nrow=1\nrow=-1\n"

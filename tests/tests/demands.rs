@@ -1,4 +1,5 @@
-//! What is asked of writing, reading, refining and planning together, on random sheets.
+//! What is asked of writing, reading, refining and planning together, of the model on random
+//! sheets.
 
 mod common;
 
@@ -11,6 +12,7 @@ use trace_card_tests::model::{
     MAX_LAYERS,
 };
 use trace_card_tests::random::cases::{Case, CURVES, LARGE_SIZES};
+use trace_card_tests::random::plans::plan_of_most;
 use trace_card_tests::random::sheets::{sheet, Kind, KINDS};
 use trace_card_tests::random::Random;
 
@@ -22,10 +24,13 @@ struct Read {
     reached: Reached,
 }
 
-fn read_with(case: &Case, card: &[u8], plan: &Plan) -> Result<Read, Refusal> {
+fn left_by(
+    case: &Case,
+    call: impl FnOnce(&mut [i32], &mut [i64]) -> Result<Reached, Refusal>,
+) -> Result<Read, Refusal> {
     let mut coefficients = vec![i32::MIN; case.count()];
     let mut values = vec![i64::MIN; case.count()];
-    let reached = read(card, plan, &mut coefficients, &mut values)?;
+    let reached = call(&mut coefficients, &mut values)?;
     Ok(Read {
         coefficients,
         values,
@@ -33,14 +38,15 @@ fn read_with(case: &Case, card: &[u8], plan: &Plan) -> Result<Read, Refusal> {
     })
 }
 
+fn read_with(case: &Case, card: &[u8], plan: &Plan) -> Result<Read, Refusal> {
+    left_by(case, |coefficients, values| {
+        read(card, plan, coefficients, values)
+    })
+}
+
 fn show_all(case: &Case, card: &[u8]) -> Result<Read, Refusal> {
-    let mut coefficients = vec![i32::MIN; case.count()];
-    let mut values = vec![i64::MIN; case.count()];
-    let reached = show(card, &mut coefficients, &mut values)?;
-    Ok(Read {
-        coefficients,
-        values,
-        reached,
+    left_by(case, |coefficients, values| {
+        show(card, coefficients, values)
     })
 }
 
@@ -229,8 +235,7 @@ fn refinements_of_small_cards_agree_with_a_fresh_reading() {
         let mut card = case.write().card;
         if round % 2 == 0 {
             let header = open(&card).unwrap().header_length;
-            let left = header + random.below((card.len() - header + 1) as u64) as usize;
-            card.truncate(left);
+            card.truncate(random.length(header, card.len()));
         }
         let reached = check_refinements(&mut random, &case, &card, 60);
         finished += u64::from(reached == whole_in(&open(&card).unwrap(), card.len()));
@@ -305,7 +310,7 @@ fn random_cuts_of_large_cards_are_shown_within_their_figure() {
             let sizes = sizes_of(&opened);
             let header = opened.header_length;
             for _ in 0..6 {
-                let length = header + random.below((card.len() - header + 1) as u64) as usize;
+                let length = random.length(header, card.len());
                 check_cut(&case, &opened, &sizes, &card[..length]);
             }
         }
@@ -314,10 +319,7 @@ fn random_cuts_of_large_cards_are_shown_within_their_figure() {
 
 /// A limit worth asking for: the step, or about the figure of some plan.
 fn limit_to_try(random: &mut Random, opened: &Opened, sizes: &[usize]) -> u64 {
-    let mut some = plan(&[]);
-    for (layer, &planes) in opened.planes.iter().enumerate() {
-        some[layer] = planes - random.below(planes + 1).min(random.below(planes + 1));
-    }
+    let some = plan_of_most(random, &opened.planes);
     let figure = figure_by_hand(opened, sizes, &some);
     match random.below(5) {
         0 => opened.step,
@@ -347,8 +349,7 @@ fn check_plan_by_limit(random: &mut Random, case: &Case, card: &[u8]) {
     assert!(furthest(&whole_reading.values, &case.samples) <= limit);
 
     // The planner does not look at the planes, so a cut changes nothing but the reading.
-    let header = opened.header_length;
-    let length = header + random.below((card.len() - header + 1) as u64) as usize;
+    let length = random.length(opened.header_length, card.len());
     let cut = &card[..length];
     assert_eq!(plan_by_limit(cut, limit), Ok(planned));
     let whole = whole_in(&opened, length);

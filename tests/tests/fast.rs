@@ -30,8 +30,7 @@ fn check(random: &mut Random, case: &Case) {
 
     let card = &written.card;
     let opened = open(card).unwrap();
-    let behind = (card.len() - opened.header_length) as u64;
-    let cut = &card[..opened.header_length + random.below(behind + 1) as usize];
+    let cut = &card[..random.length(opened.header_length, card.len())];
     let (mut theirs_q, mut theirs_v) = (vec![9; n], vec![9; n]);
     let shown = fast::show(cut, &mut coefficients, &mut values);
     assert_eq!(shown, model::show(cut, &mut theirs_q, &mut theirs_v));

@@ -226,6 +226,8 @@ fn the_widest_coefficients_need_all_digits() {
     };
     let written = case.write();
     assert_eq!(written.coefficients[3], 1_310_719 + m);
+    // The anchors' -1,048,575 is past the -699,050 that 21 digits reach, but not past the
+    // -2,796,202 of 22; the coefficient above is past the 1,398,101 of 22.
     let opened = open(&written.card).unwrap();
     assert_eq!(opened.planes, [22, 23, 0]);
     check_by_the_rules(&case, &written);

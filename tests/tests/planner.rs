@@ -1,16 +1,15 @@
-//! The planner: its two methods against each other, and both against the definition.
+//! The model's planner: its two methods against each other, and both against the definition.
 
 mod common;
 
 use common::{
-    cells_by_hand, every_plan, fewer_backwards, figure_by_hand, layer_places, plan, refusal,
-    sizes_of,
+    card_of, cells_by_hand, every_plan, fewer_backwards, figure_by_hand, header_lines,
+    layer_places, plan, refusal, sizes_of,
 };
 use trace_card_tests::model::planner::{exhaustive, front, plans_of, Goal, MOST_PLANS_TRIED};
-use trace_card_tests::model::{
-    figure, open, plan_by_cells, plan_by_limit, Curve, Opened, Plan, Planned,
-};
+use trace_card_tests::model::{figure, open, plan_by_cells, plan_by_limit, Curve, Opened, Planned};
 use trace_card_tests::random::cases::{small_size, step, Case, CURVES, LARGE_SIZES};
+use trace_card_tests::random::plans::plan_within;
 use trace_card_tests::random::Random;
 
 /// A header as text. The planner works "as if every plane were there", so none is.
@@ -30,12 +29,10 @@ fn header(
         Curve::Linear => "linear",
         Curve::Cubic => "cubic",
     };
-    let planes: Vec<String> = planes.iter().map(u64::to_string).collect();
-    format!(
-        "rows={rows}\ncols={cols}\nlevels={levels}\ncurve={curve}\nstep={step}\nplanes={}\ncells={cells}\n",
-        planes.join(",")
+    card_of(
+        &header_lines((rows, cols), levels, curve, step, planes, cells),
+        &[],
     )
-    .into_bytes()
 }
 
 /// A size with layers of several cells, or a small one, whose planes are one cell each.
@@ -75,15 +72,6 @@ fn header_of_few_plans(random: &mut Random, most: u64) -> Vec<u8> {
     )
 }
 
-/// Any plan of the card.
-fn some_plan(random: &mut Random, opened: &Opened) -> Plan {
-    let mut some = plan(&[]);
-    for (layer, &planes) in opened.planes.iter().enumerate() {
-        some[layer] = random.below(planes + 1);
-    }
-    some
-}
-
 /// Limits and numbers of cells around those of plans, and the ends of what can be asked.
 fn goals_to_try(random: &mut Random, opened: &Opened) -> Vec<Goal> {
     let e = opened.step;
@@ -91,7 +79,7 @@ fn goals_to_try(random: &mut Random, opened: &Opened) -> Vec<Goal> {
     let mut cells = vec![0, 1, opened.cells, opened.cells + 1, u64::MAX];
     let sizes = sizes_of(opened);
     for _ in 0..4 {
-        let some = some_plan(random, opened);
+        let some = plan_within(random, &opened.planes);
         let figure = figure_by_hand(opened, &sizes, &some);
         limits.extend([figure.saturating_sub(1), figure, figure + 1]);
         limits.push(e + random.below(figure - e + 1));
@@ -314,7 +302,7 @@ fn more_cells_are_not_loaded_for_nothing() {
 fn check_large(random: &mut Random, card: &[u8]) {
     let opened = open(card).unwrap();
     let sizes = sizes_of(&opened);
-    let some = some_plan(random, &opened);
+    let some = plan_within(random, &opened.planes);
     let limit = figure_by_hand(&opened, &sizes, &some);
 
     let by_limit = plan_by_limit(card, limit).unwrap();
@@ -336,7 +324,7 @@ fn check_large(random: &mut Random, card: &[u8]) {
     assert_eq!(plan_by_limit(card, by_cells.figure), Ok(by_cells));
     // No random plan comes before either.
     for _ in 0..200 {
-        let plan = some_plan(random, &opened);
+        let plan = plan_within(random, &opened.planes);
         let other = Planned {
             plan,
             cells: cells_by_hand(&sizes, &plan),

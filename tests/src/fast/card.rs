@@ -142,7 +142,11 @@ pub fn refine(
     ) {
         return Err(Refusal::with(8, layer));
     }
-    let weight = if p % 2 == 0 { 1 << p } else { -(1 << p) };
+    let weight = if p.is_multiple_of(2) {
+        1 << p
+    } else {
+        -(1 << p)
+    };
     for (i, at) in grid.places(header.rows, header.cols).enumerate() {
         coefficients[at] += i32::from(plane[i / 8] >> (i % 8) & 1) * weight;
     }

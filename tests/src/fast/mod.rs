@@ -59,8 +59,8 @@ impl Header {
     /// e plus the losses of the missing planes, carried through the layers.
     pub fn figure(&self, plan: &Plan) -> u64 {
         let mut standing = 0;
-        for layer in 0..self.layers() {
-            let missing = self.planes[layer] - plan[layer];
+        for (layer, &loaded) in plan.iter().enumerate().take(self.layers()) {
+            let missing = self.planes[layer] - loaded;
             if self.width(layer) > 0 {
                 standing = self.carry(standing) + self.charge(missing);
             }

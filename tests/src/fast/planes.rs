@@ -3,7 +3,8 @@
 use super::layers::Grid;
 use super::{Header, Plan, CELL, LAYERS, PLACES};
 
-/// Room for the words of every layer, each in whole cells.
+/// Room for the words of every layer, each in whole cells: 23 planes of all layers are at most
+/// 1,012 cells, so one plane of each is at most 44.
 pub const WORDS: usize = 44 * 8 * CELL;
 
 /// q and the weights of the odd places together: digit p of q is bit p, turned over at odd p.

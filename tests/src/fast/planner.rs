@@ -4,7 +4,9 @@ use super::header::open;
 use super::{refused, Header, Plan, LAYERS};
 use crate::model::{Planned, Refusal};
 
+/// From no cell to 1,012.
 const ROW: usize = 1013;
+/// Stands where no plan has just so many cells; more than any plan leaves.
 const NONE: u64 = 1 << 60;
 
 struct Table {

@@ -30,7 +30,7 @@ pub fn standing_after(opened: &Opened, layer: usize, standing: u64, missing: u64
         // "Empty layers change nothing."
         standing
     } else {
-        // "first carries what stands, then adds its own loss × w"
+        // "first carries what stands", "then adds its own loss × w"
         carry(opened.curve, standing) + own
     }
 }

@@ -45,7 +45,7 @@ impl Opened {
     }
 }
 
-/// The seven lines: "rows, cols, levels, curve, step, planes, cells".
+/// The "seven lines, key=value, each ended by byte 10, in this order".
 pub fn print(shape: Shape, curve: Curve, step: u64, planes: &[u64], cells: u64) -> Vec<u8> {
     let curve = match curve {
         Curve::Linear => "linear",

@@ -54,8 +54,8 @@ pub fn card_order(planes: &[u64], points: &[u64]) -> Vec<Plane> {
     order
 }
 
-/// The bytes of a plane: "point i of a layer is the bit of weight 2^(i mod 8) in
-/// byte i/8 rounded down"; "spare bits are 0".
+/// The bytes of a plane: "Point i of a layer is, in each plane, the bit of weight
+/// 2^(i mod 8) in byte i/8 rounded down"; "spare bits are 0".
 pub fn bytes_of_plane(bits: &[bool]) -> Vec<u8> {
     let mut bytes = vec![0; (cells_of_plane(bits.len() as u64) * CELL_BYTES) as usize];
     for (i, _) in bits.iter().enumerate().filter(|(_, &bit)| bit) {

@@ -4,7 +4,8 @@
 pub const SHEET_SIZE: u64 = 1;
 /// "2, levels above 6 or step above 65,535."
 pub const LEVELS_OR_STEP: u64 = 2;
-/// "3, sheet, coefficients or values not R × C long, or output under 32,768 bytes."
+/// "3, sheet, coefficients (i32) or values (i64) not R × C long, or output under 32,768
+/// bytes."
 pub const LENGTHS: u64 = 3;
 /// "4, a reading out of range."
 pub const SAMPLE_RANGE: u64 = 4;
@@ -14,7 +15,8 @@ pub const HEADER_CUT: u64 = 5;
 pub const HEADER_LINE: u64 = 6;
 /// "7, bytes follow the last cell."
 pub const BYTES_AFTER: u64 = 7;
-/// "8, a plane of the plan has a spare bit set, or is its layer's top plane with no 1."
+/// "8, in card order, a plane of the plan has a spare bit set, or is its layer's top plane
+/// with no 1".
 pub const BAD_PLANE: u64 = 8;
 /// "9, a layer asks more planes than are whole, or a place past the last layer is not 0."
 pub const PLAN: u64 = 9;

@@ -1,4 +1,4 @@
-//! Whole cases: a sheet with its settings, and what writing it gives.
+//! Whole cases: a sheet with its settings, and what the model writes of it.
 
 use super::sheets::{sheet, Kind, KINDS};
 use super::Random;
@@ -85,8 +85,8 @@ impl Case {
         (self.rows * self.cols) as usize
     }
 
-    /// Writes the case, which must not be refused, and checks that the rest of the
-    /// output is untouched.
+    /// What the model writes of the case, which must not be refused; the rest of the output
+    /// must be untouched.
     pub fn write(&self) -> Written {
         const FILLING: u8 = 0xA7;
         let mut coefficients = vec![-77; self.count()];

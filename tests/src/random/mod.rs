@@ -1,6 +1,8 @@
 //! A small generator with fixed seeds, so that every run is the same.
 
 pub mod cases;
+pub mod damage;
+pub mod plans;
 pub mod sheets;
 
 /// SplitMix64.
@@ -29,6 +31,11 @@ impl Random {
     /// A number from `least` to `greatest`, both among them.
     pub fn between(&mut self, least: i64, greatest: i64) -> i64 {
         least + self.below((greatest - least + 1) as u64) as i64
+    }
+
+    /// A length from `least` to `most`, both among them.
+    pub fn length(&mut self, least: usize, most: usize) -> usize {
+        least + self.below((most - least) as u64 + 1) as usize
     }
 
     /// True once in so many times.

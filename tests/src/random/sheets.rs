@@ -1,8 +1,9 @@
 //! Sheets of samples of several kinds.
 
 use super::Random;
+use crate::model::sheet::LARGEST_SAMPLE;
 
-const LARGEST: i64 = 1_048_575;
+const LARGEST: i64 = LARGEST_SAMPLE as i64;
 
 #[derive(Clone, Copy, Debug, PartialEq, Eq)]
 pub enum Kind {

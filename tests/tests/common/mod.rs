@@ -1,7 +1,10 @@
-//! Second ways of getting what the model says, written apart from it.
+//! Cards put together by hand, and second ways of getting what the model says, written apart
+//! from it.
 
 // Each test file uses some of these.
 #![allow(dead_code)]
+
+pub mod bench;
 
 use trace_card_tests::model::{Curve, Opened, Plan, Refusal, MAX_LAYERS};
 
@@ -14,6 +17,42 @@ pub fn plan(first: &[u64]) -> Plan {
     let mut plan = [0; MAX_LAYERS];
     plan[..first.len()].copy_from_slice(first);
     plan
+}
+
+/// The seven lines of a header, without their ends.
+pub fn header_lines(
+    (rows, cols): (u64, u64),
+    levels: u64,
+    curve: &str,
+    step: u64,
+    planes: &[u64],
+    cells: u64,
+) -> [String; 7] {
+    let planes: Vec<String> = planes.iter().map(u64::to_string).collect();
+    [
+        format!("rows={rows}"),
+        format!("cols={cols}"),
+        format!("levels={levels}"),
+        format!("curve={curve}"),
+        format!("step={step}"),
+        format!("planes={}", planes.join(",")),
+        format!("cells={cells}"),
+    ]
+}
+
+/// The bytes of any lines, each given without its end, and of cells, each given by its first
+/// byte, with 0 for the others.
+pub fn card_of<Line: AsRef<[u8]>>(lines: &[Line], cells: &[u8]) -> Vec<u8> {
+    let mut card = Vec::new();
+    for line in lines {
+        card.extend_from_slice(line.as_ref());
+        card.push(10);
+    }
+    for &first in cells {
+        card.push(first);
+        card.extend([0; 31]);
+    }
+    card
 }
 
 /// The power of two in a row or column number, no higher than the levels.

@@ -1,36 +1,116 @@
-//! Each call made twice, by the proved code and by the model, and everything compared.
+//! Each call made by the proved code, in both kinds of room, and by the model; and everything
+//! compared.
 
-use trace_card_tests::boundary::{self, ANSWER, PLAN};
-use trace_card_tests::lent::Lent;
+use super::calls::{differences, proved, Call, Left, Memory};
+use super::promised::{planned, promised};
+use trace_card_tests::boundary::ANSWER;
+use trace_card_tests::lent::ROOMS;
+use trace_card_tests::model::write::OUTPUT_BYTES;
 use trace_card_tests::model::{self, Curve, Plan, Planned, Reached, Refusal};
 use trace_card_tests::random::cases::Case;
 
-/// Numbers that no call leaves by chance.
-const Q: i32 = -123_456_789;
-const V: i64 = -1_234_567_890_123_456_789;
-const B: u8 = 0xA7;
-const A: u64 = 0xDEAD_BEEF_0BAD_F00D;
+/// Numbers that no call leaves by chance, or bytes that it leaves seldom.
+pub const Q: i32 = -123_456_789;
+pub const V: i64 = -1_234_567_890_123_456_789;
+pub const B: u8 = 0xA7;
+pub const A: u64 = 0xDEAD_BEEF_0BAD_F00D;
 
 /// The curve's number at the boundary.
-pub fn curve_number(curve: Curve) -> u64 {
+fn curve_number(curve: Curve) -> u64 {
     match curve {
         Curve::Linear => 0,
         Curve::Cubic => 1,
     }
 }
 
-/// The slices of a reading, as a caller holds them.
+/// The proved call leaves what it should, whatever stands around its slices; and a refusal
+/// leaves everything but the answer.
+fn hold(call: Call, memory: &Memory, expected: &Left) {
+    for room in ROOMS {
+        let found = proved(call, memory, room);
+        assert!(
+            found == *expected,
+            "{call:?} in {room:?} returned {}, not {}; {:?}",
+            found.0,
+            expected.0,
+            differences(&found.1, &expected.1)
+        );
+    }
+    if expected.0 != 0 {
+        let mut kept = memory.clone();
+        kept.answer.clone_from(&expected.1.answer);
+        assert!(kept == expected.1, "{call:?} refused changes memory");
+    }
+}
+
+/// Makes the call both ways in this memory, which is then as the call left it. Answers what
+/// the call returned.
+pub fn check(call: Call, memory: &mut Memory) -> u64 {
+    let expected = promised(call, memory);
+    hold(call, memory, &expected);
+    *memory = expected.1;
+    expected.0
+}
+
+/// The refusal that an answer tells.
+fn refusal_in(answer: &[u64]) -> Result<(), Refusal> {
+    match *answer {
+        [0, ..] => Ok(()),
+        [number, first, second, ..] => Err(Refusal {
+            number,
+            details: [first, second],
+        }),
+        _ => unreachable!("an answer has 24 numbers"),
+    }
+}
+
+/// The plan that an answer tells.
+fn plan_in(answer: &[u64]) -> Plan {
+    let mut plan = [0; model::MAX_LAYERS];
+    plan.copy_from_slice(&answer[5..5 + model::MAX_LAYERS]);
+    plan
+}
+
+/// Writing, with slices of any length. Answers the card.
+pub fn write(case: &Case, lengths: [usize; 2], output: usize) -> Result<Vec<u8>, Refusal> {
+    let call = Call::Write {
+        rows: case.rows,
+        cols: case.cols,
+        levels: case.levels,
+        curve: curve_number(case.curve),
+        step: case.step,
+    };
+    let mut memory = Memory {
+        samples: case.samples.clone(),
+        coefficients: vec![Q; lengths[0]],
+        values: vec![V; lengths[1]],
+        output: vec![B; output],
+        answer: vec![A; ANSWER],
+        ..Memory::default()
+    };
+    check(call, &mut memory);
+    refusal_in(&memory.answer)?;
+    memory.output.truncate(memory.answer[3] as usize);
+    Ok(memory.output)
+}
+
+/// Writing in slices as long as document 01 asks; the case must be accepted.
+pub fn written(case: &Case) -> Vec<u8> {
+    write(case, [case.count(); 2], OUTPUT_BYTES).expect("an accepted sheet is written")
+}
+
+/// The slices of a reading, as a caller holds them from one call to the next.
 #[derive(Clone, Debug, PartialEq, Eq)]
 pub struct Slices {
-    pub coefficients: Lent<i32>,
-    pub values: Lent<i64>,
+    pub coefficients: Vec<i32>,
+    pub values: Vec<i64>,
 }
 
 impl Slices {
     pub fn of_lengths(coefficients: usize, values: usize) -> Slices {
         Slices {
-            coefficients: Lent::filled(coefficients, Q, 77),
-            values: Lent::filled(values, V, 77),
+            coefficients: vec![Q; coefficients],
+            values: vec![V; values],
         }
     }
 
@@ -40,179 +120,102 @@ impl Slices {
 
     pub fn holding(coefficients: &[i32]) -> Slices {
         Slices {
-            coefficients: Lent::new(coefficients, 77),
+            coefficients: coefficients.to_vec(),
             ..Slices::new(coefficients.len())
         }
     }
-
-    fn check_guards(&self) {
-        self.coefficients.check_guards();
-        self.values.check_guards();
-    }
 }
 
-fn answer_of(refusal: Refusal) -> [u64; ANSWER] {
-    let mut answer = [0; ANSWER];
-    answer[0] = refusal.number;
-    answer[1..3].copy_from_slice(&refusal.details);
-    answer
-}
-
-fn answer_with(size: u64, figure: u64, plan: &Plan) -> [u64; ANSWER] {
-    let mut answer = [0; ANSWER];
-    answer[3] = size;
-    answer[4] = figure;
-    answer[5..5 + PLAN].copy_from_slice(plan);
-    answer
-}
-
-/// The answer that what the model says makes.
-fn expected<T>(
-    result: &Result<T, Refusal>,
-    accepted: impl Fn(&T) -> [u64; ANSWER],
-) -> [u64; ANSWER] {
-    match result {
-        Ok(given) => accepted(given),
-        Err(refusal) => answer_of(*refusal),
-    }
-}
-
-fn check_answer(returned: u64, answer: &Lent<u64>, expected: &[u64; ANSWER]) {
-    assert_eq!(answer.get(), expected);
-    assert_eq!(returned, expected[0]);
-    answer.check_guards();
-}
-
-/// Writing, with slices of any length. Answers the card.
-pub fn write(case: &Case, lengths: [usize; 2], output: usize) -> Result<Vec<u8>, Refusal> {
-    let mut ours = Slices::of_lengths(lengths[0], lengths[1]);
-    let mut theirs = ours.clone();
-    let before = ours.clone();
-    let samples = Lent::new(&case.samples, 77);
-    let mut our_output = Lent::filled(output, B, 0x55);
-    let mut their_output = our_output.clone();
-    let untouched = our_output.clone();
-    let mut answer = Lent::filled(ANSWER, A, 77);
-    let returned = boundary::write(
-        samples.get(),
-        case.rows,
-        case.cols,
-        case.levels,
-        curve_number(case.curve),
-        case.step,
-        ours.coefficients.lend(),
-        ours.values.lend(),
-        our_output.lend(),
-        answer.lend(),
-    );
-    let result = model::write(
-        &case.samples,
-        case.rows,
-        case.cols,
-        case.levels,
-        case.curve,
-        case.step,
-        theirs.coefficients.lend(),
-        theirs.values.lend(),
-        their_output.lend(),
-    );
-    let answered = expected(&result, |&length| answer_with(length, 0, &[0; PLAN]));
-    check_answer(returned, &answer, &answered);
-    assert_eq!(ours, theirs);
-    assert_eq!(our_output, their_output);
-    ours.check_guards();
-    our_output.check_guards();
-    if result.is_err() {
-        assert_eq!((ours, our_output.clone()), (before, untouched));
-    }
-    result.map(|length| our_output.get()[..length as usize].to_vec())
-}
-
-/// Writing in slices as long as document 01 asks; the case must be accepted.
-pub fn written(case: &Case) -> Vec<u8> {
-    write(case, [case.count(); 2], 32_768).expect("an accepted sheet is written")
-}
-
-/// One of the calls that leave coefficients and values.
-#[derive(Clone, Copy, Debug)]
-pub enum Call<'a> {
-    Read(&'a Plan),
-    Show,
-    Refine(&'a Plan, u64),
-}
-
-/// Reading, showing or refining in these slices, which are then as the call left them.
-pub fn reach(card: &[u8], call: Call, slices: &mut Slices) -> Result<Reached, Refusal> {
-    let before = slices.clone();
-    let mut theirs = slices.clone();
-    let (their_coefficients, their_values) = (theirs.coefficients.lend(), theirs.values.lend());
-    let mut answer = Lent::filled(ANSWER, A, 77);
-    let (coefficients, values) = (slices.coefficients.lend(), slices.values.lend());
-    let (returned, result) = match call {
-        Call::Read(plan) => (
-            boundary::read(card, plan, coefficients, values, answer.lend()),
-            model::read(card, plan, their_coefficients, their_values),
-        ),
-        Call::Show => (
-            boundary::show(card, coefficients, values, answer.lend()),
-            model::show(card, their_coefficients, their_values),
-        ),
-        Call::Refine(plan, layer) => (
-            boundary::refine(card, plan, layer, coefficients, values, answer.lend()),
-            model::refine(card, plan, layer, their_coefficients, their_values),
-        ),
+/// A call that leaves coefficients and values, in these slices, which are then as it left them.
+fn reach(call: Call, card: &[u8], plan: &[u64], slices: &mut Slices) -> Result<Reached, Refusal> {
+    let mut memory = Memory {
+        card: card.to_vec(),
+        plan: plan.to_vec(),
+        coefficients: std::mem::take(&mut slices.coefficients),
+        values: std::mem::take(&mut slices.values),
+        answer: vec![A; ANSWER],
+        ..Memory::default()
     };
-    let answered = expected(&result, |reached: &Reached| {
-        answer_with(0, reached.figure, &reached.plan)
-    });
-    check_answer(returned, &answer, &answered);
-    assert_eq!(*slices, theirs);
-    slices.check_guards();
-    if result.is_err() {
-        assert_eq!(*slices, before);
+    check(call, &mut memory);
+    slices.coefficients = memory.coefficients;
+    slices.values = memory.values;
+    refusal_in(&memory.answer)?;
+    Ok(Reached {
+        plan: plan_in(&memory.answer),
+        figure: memory.answer[4],
+    })
+}
+
+pub fn read(card: &[u8], plan: &Plan, slices: &mut Slices) -> Result<Reached, Refusal> {
+    reach(Call::Read, card, plan, slices)
+}
+
+pub fn show(card: &[u8], slices: &mut Slices) -> Result<Reached, Refusal> {
+    reach(Call::Show, card, &[], slices)
+}
+
+pub fn refine(
+    card: &[u8],
+    plan: &Plan,
+    layer: u64,
+    slices: &mut Slices,
+) -> Result<Reached, Refusal> {
+    reach(Call::Refine { layer }, card, plan, slices)
+}
+
+/// The memory of a call that only answers.
+fn asking(card: &[u8], plan: &[u64]) -> Memory {
+    Memory {
+        card: card.to_vec(),
+        plan: plan.to_vec(),
+        answer: vec![A; ANSWER],
+        ..Memory::default()
     }
-    result
 }
 
 /// The figure of a plan.
 pub fn figure(card: &[u8], plan: &Plan) -> Result<u64, Refusal> {
-    let mut answer = Lent::filled(ANSWER, A, 77);
-    let returned = boundary::figure(card, plan, answer.lend());
-    let result = model::figure(card, plan);
-    let answered = expected(&result, |&figure| answer_with(0, figure, plan));
-    check_answer(returned, &answer, &answered);
-    result
+    let mut memory = asking(card, plan);
+    check(Call::Figure, &mut memory);
+    refusal_in(&memory.answer)?;
+    Ok(memory.answer[4])
 }
 
-fn planned(planned: &Planned) -> [u64; ANSWER] {
-    answer_with(planned.cells, planned.figure, &planned.plan)
+/// A planning call.
+fn find_plan(call: Call, card: &[u8]) -> Result<Planned, Refusal> {
+    let mut memory = asking(card, &[]);
+    check(call, &mut memory);
+    refusal_in(&memory.answer)?;
+    Ok(Planned {
+        plan: plan_in(&memory.answer),
+        cells: memory.answer[3],
+        figure: memory.answer[4],
+    })
 }
 
-/// Planning by limit, held against what some method says.
-pub fn check_limit(card: &[u8], limit: u64, result: &Result<Planned, Refusal>) {
-    let mut answer = Lent::filled(ANSWER, A, 77);
-    let returned = boundary::plan_by_limit(card, limit, answer.lend());
-    check_answer(returned, &answer, &expected(result, planned));
+pub fn plan_by_limit(card: &[u8], limit: u64) -> Result<Planned, Refusal> {
+    find_plan(Call::PlanByLimit(limit), card)
 }
 
-/// Planning by cells, held against what some method says.
-pub fn check_cells(card: &[u8], cells: u64, result: &Result<Planned, Refusal>) {
-    let mut answer = Lent::filled(ANSWER, A, 77);
-    let returned = boundary::plan_by_cells(card, cells, answer.lend());
-    check_answer(returned, &answer, &expected(result, planned));
+pub fn plan_by_cells(card: &[u8], cells: u64) -> Result<Planned, Refusal> {
+    find_plan(Call::PlanByCells(cells), card)
 }
 
-/// Every call on the same bytes, with a plan and slices of these lengths.
-pub fn every_call(card: &[u8], plan: &Plan, layer: u64, lengths: [usize; 2]) {
-    for call in [Call::Show, Call::Read(plan), Call::Refine(plan, layer)] {
-        let mut slices = Slices::of_lengths(lengths[0], lengths[1]);
-        // Coefficients out of range are refusal 11; refining wants some that are not.
-        slices.coefficients.lend().fill(1);
-        let _ = reach(card, call, &mut slices);
-    }
-    let _ = figure(card, plan);
-    for asked in [plan[0], layer, 70_000, u64::MAX] {
-        check_limit(card, asked, &model::plan_by_limit(card, asked));
-        check_cells(card, asked, &model::plan_by_cells(card, asked));
-    }
+/// A planning call, held against what some method says.
+fn hold_plan(call: Call, card: &[u8], result: Result<Planned, Refusal>) {
+    let memory = asking(card, &[]);
+    let answer = planned(result);
+    let left = Memory {
+        answer: answer.to_vec(),
+        ..memory.clone()
+    };
+    hold(call, &memory, &(answer[0], left));
+}
+
+pub fn hold_limit(card: &[u8], limit: u64, result: Result<Planned, Refusal>) {
+    hold_plan(Call::PlanByLimit(limit), card, result);
+}
+
+pub fn hold_cells(card: &[u8], cells: u64, result: Result<Planned, Refusal>) {
+    hold_plan(Call::PlanByCells(cells), card, result);
 }

@@ -1,42 +1,44 @@
-//! Bytes that no writer wrote, through every call: random ones, and ones put together like cards.
+//! Bytes that no writer wrote, through every call: random ones, and ones put together like
+//! cards; with them any sheet, plan and numbers, and slices of any length.
 
-use super::both::{every_call, reach, Call, Slices};
-use trace_card_tests::boundary::PLAN;
-use trace_card_tests::model::planes::cells_in;
+use super::both::{check, A, B};
+use super::calls::{Call, Memory, SLICES};
+use super::common::{card_of, header_lines};
+use trace_card_tests::boundary::ANSWER;
+use trace_card_tests::model::planes::{cells_in, whole_planes};
 use trace_card_tests::model::sheet::Shape;
+use trace_card_tests::model::write::OUTPUT_BYTES;
 use trace_card_tests::model::{open, Plan};
+use trace_card_tests::random::plans::plan_about;
 use trace_card_tests::random::Random;
 
-/// A line with a value that may or may not be what a header has there.
-fn any_line(random: &mut Random, key: &str) -> String {
-    let value = match random.below(10) {
+/// What may or may not stand behind the key of a line.
+fn any_value(random: &mut Random) -> String {
+    match random.below(10) {
         0 => random.draw().to_string(),
         1 => format!("0{}", random.below(10)),
         2 => "linear".to_string(),
         3 => "cubic".to_string(),
-        4 => joined(
-            &(0..random.below(15))
-                .map(|_| random.below(25))
-                .collect::<Vec<_>>(),
-        ),
+        4 => {
+            let counts: Vec<String> = (0..random.below(15))
+                .map(|_| random.below(25).to_string())
+                .collect();
+            counts.join(",")
+        }
         5 => String::new(),
         6 => "7".repeat(random.below(3000) as usize),
         _ => random.below(9).to_string(),
-    };
-    format!("{key}={value}\n")
-}
-
-fn joined(numbers: &[u64]) -> String {
-    let numbers: Vec<String> = numbers.iter().map(u64::to_string).collect();
-    numbers.join(",")
+    }
 }
 
 /// A header that is right but for a line now and then, and any bytes behind it, about as many
 /// as its cells have.
 fn card_like(random: &mut Random) -> Vec<u8> {
+    // Now and then a plane has several cells.
+    let end = if random.once_in(40) { 40 } else { 12 };
     let shape = Shape {
-        rows: 1 + random.below(12),
-        cols: 1 + random.below(12),
+        rows: 1 + random.below(end),
+        cols: 1 + random.below(end),
         levels: random.below(4),
     };
     let points = shape.layer_counts();
@@ -45,24 +47,22 @@ fn card_like(random: &mut Random) -> Vec<u8> {
         .map(|&count| if count == 0 { 0 } else { random.below(4) })
         .collect();
     let cells = cells_in(&planes, &points);
-    let mut lines = [
-        format!("rows={}\n", shape.rows),
-        format!("cols={}\n", shape.cols),
-        format!("levels={}\n", shape.levels),
-        format!("curve={}\n", random.pick(&["linear", "cubic"])),
-        format!("step={}\n", random.below(65_536)),
-        format!("planes={}\n", joined(&planes)),
-        format!("cells={cells}\n"),
-    ];
+    let mut lines = header_lines(
+        (shape.rows, shape.cols),
+        shape.levels,
+        random.pick(&["linear", "cubic"]),
+        random.below(65_536),
+        &planes,
+        cells,
+    );
     if random.once_in(3) {
-        let place = random.below(7) as usize;
-        let key = lines[place].split('=').next().unwrap().to_string();
-        lines[place] = any_line(random, &key);
+        let line = random.pick(&[0, 1, 2, 3, 4, 5, 6]);
+        let key = lines[line].split('=').next().unwrap();
+        lines[line] = format!("{key}={}", any_value(random));
     }
-    let mut bytes = lines.concat().into_bytes();
+    let mut bytes = card_of(&lines, &[]);
     if random.once_in(8) {
-        let length = random.below(bytes.len() as u64 + 1) as usize;
-        bytes.truncate(length);
+        bytes.truncate(random.length(0, bytes.len()));
         return bytes;
     }
     let full = 32 * cells;
@@ -80,48 +80,169 @@ fn card_like(random: &mut Random) -> Vec<u8> {
     bytes
 }
 
-fn some_plan(random: &mut Random) -> Plan {
-    let mut plan = [0; PLAN];
-    for planes in &mut plan {
-        if random.once_in(6) {
-            *planes = random.pick(&[1, 1, 2, 3, 23, 24, u64::MAX]);
+/// Numbers past all that a call expects; some of them come back into its range where they are
+/// counted up, multiplied by 8 or 32, or cut to 32 bits.
+const HUGE: [u64; 9] = [
+    24,
+    65_536,
+    1 << 31,
+    1 << 32,
+    (1 << 32) + 1,
+    1 << 59,
+    1 << 61,
+    1 << 63,
+    u64::MAX,
+];
+
+/// A number, mostly from 0 to `end` - 1.
+fn any_number(random: &mut Random, end: u64) -> u64 {
+    match random.below(10) {
+        0 => random.pick(&HUGE),
+        1 => random.draw(),
+        _ => random.below(end),
+    }
+}
+
+/// A plan of about these planes, or any numbers.
+fn any_plan(random: &mut Random, whole: &[u64]) -> Plan {
+    let mut plan = plan_about(random, whole);
+    if random.once_in(3) {
+        for planes in &mut plan {
+            if random.once_in(8) {
+                *planes = any_number(random, 24);
+            }
         }
     }
     plan
 }
 
-#[test]
-fn random_bytes() {
-    let mut random = Random::new(551);
-    for _ in 0..20_000 {
-        let length = random.below(400);
-        let bytes: Vec<u8> = (0..length).map(|_| random.draw() as u8).collect();
-        let plan = some_plan(&mut random);
-        let lengths = [random.below(40) as usize, random.below(40) as usize];
-        every_call(&bytes, &plan, random.below(15), lengths);
+/// All calls, with any numbers; a sheet written has mostly this size.
+fn all_calls(random: &mut Random, (rows, cols): (u64, u64)) -> [Call; 7] {
+    let mut size = |right| match random.below(8) {
+        0 => any_number(random, 10),
+        _ => right,
+    };
+    let (rows, cols) = (size(rows), size(cols));
+    [
+        Call::Write {
+            rows,
+            cols,
+            levels: any_number(random, 7),
+            curve: any_number(random, 2),
+            step: any_number(random, 65_536),
+        },
+        Call::Read,
+        Call::Show,
+        Call::Refine {
+            layer: any_number(random, 4),
+        },
+        Call::Figure,
+        Call::PlanByLimit(any_number(random, 100_000)),
+        Call::PlanByCells(any_number(random, 20)),
+    ]
+}
+
+/// Memory for a sheet of so many points; now and then some slices have other lengths, or
+/// numbers that no call takes.
+fn any_memory(random: &mut Random, call: Call, card: &[u8], plan: &Plan, points: usize) -> Memory {
+    let odd = random.once_in(6);
+    let writes = matches!(call, Call::Write { .. });
+    let mut memory = Memory {
+        samples: (0..points)
+            .map(|_| match random.below(40) {
+                0 if odd => random.draw() as i32,
+                _ => random.between(-1_048_575, 1_048_575) as i32,
+            })
+            .collect(),
+        card: card.to_vec(),
+        plan: plan.to_vec(),
+        coefficients: (0..points)
+            .map(|_| match random.below(40) {
+                0 if odd => random.draw() as i32,
+                _ => random.between(-2_796_202, 5_592_405) as i32,
+            })
+            .collect(),
+        values: (0..points).map(|_| random.draw() as i64).collect(),
+        output: vec![B; if writes { OUTPUT_BYTES } else { 0 }],
+        answer: vec![A; ANSWER],
+    };
+    if random.once_in(6) {
+        for _ in 0..1 + random.below(3) {
+            let slice = random.pick(&SLICES);
+            let right = memory.length(slice) as u64;
+            let length = match random.below(4) {
+                0 => 0,
+                1 => right.saturating_sub(1),
+                2 => right + 1,
+                _ => random.below(2 * right + 1),
+            };
+            memory.resize(slice, length as usize);
+        }
+    }
+    memory
+}
+
+/// How often each call returned each number.
+type Met = [[u64; 12]; 7];
+
+/// Makes all calls on these bytes, with slices for the sheet that they open to, or for any.
+fn attack(random: &mut Random, card: &[u8], met: &mut Met) {
+    let (size, whole) = match open(card) {
+        Ok(opened) => ((opened.rows, opened.cols), whole_planes(&opened, card)),
+        Err(_) => ((1 + random.below(9), 1 + random.below(9)), vec![]),
+    };
+    let points = (size.0 * size.1) as usize;
+    for (call, met) in all_calls(random, size).into_iter().zip(met) {
+        let plan = any_plan(random, &whole);
+        let mut memory = any_memory(random, call, card, &plan, points);
+        met[check(call, &mut memory) as usize] += 1;
     }
 }
 
-/// The slices are as long as the sheet where there is one, so that every refusal is met, and
-/// none at all.
+/// The numbers that each of these calls may return: its own refusals, those of opening a card,
+/// and 3 for an answer or a plan of another length.
+const RETURNED: [&[usize]; 7] = [
+    &[0, 1, 2, 3, 4],
+    &[0, 3, 5, 6, 7, 8, 9],
+    &[0, 3, 5, 6, 7, 8],
+    &[0, 3, 5, 6, 7, 8, 9, 11],
+    &[0, 3, 5, 6, 7, 9],
+    &[0, 3, 5, 6, 7, 10],
+    &[0, 3, 5, 6, 7],
+];
+
+#[test]
+fn random_bytes() {
+    let mut random = Random::new(551);
+    let mut met: Met = [[0; 12]; 7];
+    for _ in 0..10_000 {
+        let length = random.below(400);
+        let bytes: Vec<u8> = (0..length).map(|_| random.draw() as u8).collect();
+        attack(&mut random, &bytes, &mut met);
+    }
+    // Such bytes are cut in line 1 or have a wrong one.
+    for met in &met[1..] {
+        assert!([3, 5, 6].iter().all(|&number| met[number] > 100));
+        assert_eq!(met[3] + met[5] + met[6], 10_000);
+    }
+}
+
+/// Every call returns every number that it may, and no other.
 #[test]
 fn bytes_like_cards() {
     let mut random = Random::new(552);
-    let mut met = [0; 12];
-    for _ in 0..30_000 {
+    let mut met: Met = [[0; 12]; 7];
+    for _ in 0..25_000 {
         let bytes = card_like(&mut random);
-        let points = match open(&bytes) {
-            Ok(opened) if !random.once_in(20) => opened.shape().count(),
-            _ => random.below(145) as usize,
-        };
-        let shown = reach(&bytes, Call::Show, &mut Slices::new(points));
-        met[shown.map_or_else(|refusal| refusal.number, |_| 0) as usize] += 1;
-        let plan = some_plan(&mut random);
-        let read = reach(&bytes, Call::Read(&plan), &mut Slices::new(points));
-        met[read.map_or_else(|refusal| refusal.number, |_| 0) as usize] += 1;
-        every_call(&bytes, &plan, random.below(15), [points, points]);
+        attack(&mut random, &bytes, &mut met);
     }
-    for number in [0, 3, 5, 6, 7, 8, 9] {
-        assert!(met[number] > 100, "{met:?}");
+    for (met, returned) in met.iter().zip(RETURNED) {
+        for (number, &times) in met.iter().enumerate() {
+            if returned.contains(&number) {
+                assert!(times > 100, "{number} in {met:?}");
+            } else {
+                assert_eq!(times, 0, "{number} in {met:?}");
+            }
+        }
     }
 }

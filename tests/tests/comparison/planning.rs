@@ -1,12 +1,14 @@
-//! Planning, against every plan on small cards and against the model's second method on large ones.
+//! Planning, against every plan on small cards and against the model's second method on large
+//! ones; and the figure of a plan.
 
-use super::both::{check_cells, check_limit, written};
+use super::both::{figure, hold_cells, hold_limit, written};
 use super::common::every_plan;
 use trace_card_tests::model::figure::figure_of;
 use trace_card_tests::model::planes::cells_in;
 use trace_card_tests::model::planner::{cells_of_plan, exhaustive, front, plans_of, Goal, Planned};
 use trace_card_tests::model::{open, Opened, Refusal};
 use trace_card_tests::random::cases::{Case, CURVES, LARGE_SIZES};
+use trace_card_tests::random::plans::plan_about;
 use trace_card_tests::random::sheets::{sheet, Kind, KINDS};
 use trace_card_tests::random::Random;
 
@@ -15,8 +17,8 @@ type Method = fn(&Opened, Goal) -> Option<Planned>;
 fn check(card: &[u8], opened: &Opened, goal: Goal, method: Method) {
     let result = method(opened, goal).ok_or(Refusal::plain(10));
     match goal {
-        Goal::Limit(limit) => check_limit(card, limit, &result),
-        Goal::Cells(cells) => check_cells(card, cells, &result),
+        Goal::Limit(limit) => hold_limit(card, limit, result),
+        Goal::Cells(cells) => hold_cells(card, cells, result),
     }
 }
 
@@ -175,8 +177,7 @@ fn cut_cards() {
         let case = Case::small(&mut random);
         let card = written(&case);
         let opened = open(&card).unwrap();
-        let rest = (card.len() - opened.header_length) as u64;
-        let cut = &card[..opened.header_length + random.below(rest + 1) as usize];
+        let cut = &card[..random.length(opened.header_length, card.len())];
         let digits = random.below(30);
         let limit = opened.step + random.below(1 << digits);
         check(cut, &opened, Goal::Limit(limit), front);
@@ -187,4 +188,28 @@ fn cut_cards() {
             front,
         );
     }
+}
+
+#[test]
+fn figures_of_plans() {
+    let mut random = Random::new(531);
+    let mut cases: Vec<Case> = LARGE_SIZES
+        .map(|(rows, cols)| Case::of_size(&mut random, rows, cols))
+        .to_vec();
+    cases.extend((0..400).map(|_| Case::small(&mut random)));
+    let (mut accepted, mut refused) = (0, 0);
+    for case in cases {
+        let card = written(&case);
+        let opened = open(&card).unwrap();
+        for _ in 0..10 {
+            let plan = plan_about(&mut random, &opened.planes);
+            // The figure is of the header alone, whatever is left behind it.
+            let length = random.length(opened.header_length, card.len());
+            match figure(&card[..length], &plan) {
+                Ok(_) => accepted += 1,
+                Err(_) => refused += 1,
+            }
+        }
+    }
+    assert!(accepted > 100 && refused > 100, "{accepted} {refused}");
 }

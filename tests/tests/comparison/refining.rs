@@ -1,9 +1,10 @@
 //! Lists of refinements, refused ones among them.
 
-use super::both::{reach, written, Call, Slices};
+use super::both::{read, refine, written, Slices};
 use trace_card_tests::boundary::PLAN;
 use trace_card_tests::model::{open, Plan};
 use trace_card_tests::random::cases::{Case, CURVES, LARGE_SIZES};
+use trace_card_tests::random::plans::plan_within;
 use trace_card_tests::random::sheets::Kind;
 use trace_card_tests::random::Random;
 
@@ -13,7 +14,7 @@ use trace_card_tests::random::Random;
 fn refine_in_turn(random: &mut Random, card: &[u8], points: usize, calls: usize) -> usize {
     let mut slices = Slices::new(points);
     let mut plan: Plan = [0; PLAN];
-    let Ok(mut reached) = reach(card, Call::Read(&plan), &mut slices) else {
+    let Ok(mut reached) = read(card, &plan, &mut slices) else {
         return 0;
     };
     let mut accepted = 0;
@@ -22,14 +23,14 @@ fn refine_in_turn(random: &mut Random, card: &[u8], points: usize, calls: usize)
             0 => random.draw(),
             _ => random.below(14),
         };
-        if let Ok(now) = reach(card, Call::Refine(&plan, layer), &mut slices) {
+        if let Ok(now) = refine(card, &plan, layer, &mut slices) {
             reached = now;
             plan = now.plan;
             accepted += 1;
         }
     }
     let mut fresh = Slices::new(points);
-    let once = reach(card, Call::Read(&plan), &mut fresh);
+    let once = read(card, &plan, &mut fresh);
     assert_eq!((once, fresh), (Ok(reached), slices));
     accepted
 }
@@ -42,9 +43,8 @@ fn small_cards_whole_and_cut() {
         let case = Case::small(&mut random);
         let card = written(&case);
         let header = open(&card).unwrap().header_length;
-        let length = header + random.below((card.len() - header) as u64 + 1) as usize;
         let cut = if random.once_in(2) {
-            length
+            random.length(header, card.len())
         } else {
             card.len()
         };
@@ -71,16 +71,16 @@ fn damaged_cards() {
         let mut slices = Slices::new(case.count());
         let mut plan = [0; PLAN];
         let layer = random.below(3);
-        if reach(&card, Call::Read(&plan), &mut slices).is_err() {
+        if read(&card, &plan, &mut slices).is_err() {
             continue;
         }
         let refused = loop {
-            match reach(&card, Call::Refine(&plan, layer), &mut slices) {
+            match refine(&card, &plan, layer, &mut slices) {
                 Ok(reached) => plan = reached.plan,
                 Err(refusal) => break refusal,
             }
         };
-        let again = reach(&card, Call::Refine(&plan, layer), &mut slices);
+        let again = refine(&card, &plan, layer, &mut slices);
         assert_eq!(again, Err(refused));
         met += u64::from(refused.number == 8);
     }
@@ -121,10 +121,7 @@ fn coefficients_made_up() {
         let case = Case::small(&mut random);
         let card = written(&case);
         let opened = open(&card).unwrap();
-        let mut plan: Plan = [0; PLAN];
-        for (place, &planes) in opened.planes.iter().enumerate() {
-            plan[place] = random.below(planes + 1);
-        }
+        let plan = plan_within(&mut random, &opened.planes);
         let held = random.once_in(2);
         let coefficients: Vec<i32> = (0..case.count())
             .map(|_| match random.below(12) {
@@ -135,7 +132,7 @@ fn coefficients_made_up() {
             .collect();
         let layer = random.below(opened.planes.len() as u64 + 1);
         let mut slices = Slices::holding(&coefficients);
-        match reach(&card, Call::Refine(&plan, layer), &mut slices) {
+        match refine(&card, &plan, layer, &mut slices) {
             Ok(_) => taken += 1,
             Err(refusal) => past += u64::from(refusal.number == 11),
         }
@@ -157,13 +154,13 @@ fn plans_and_lengths() {
             plan[random.below(13) as usize] = random.pick(&[1, 22, 23, 24, u64::MAX]);
         }
         let layer = random.pick(&[0, 1, 2, 12, 13, u64::MAX]);
-        let refine = |slices: &mut Slices| match reach(&card, Call::Refine(&plan, layer), slices) {
+        let number = |mut slices: Slices| match refine(&card, &plan, layer, &mut slices) {
             Ok(_) => 0,
             Err(refusal) => refusal.number,
         };
-        met[refine(&mut Slices::holding(&vec![1; n])) as usize] += 1;
-        assert_eq!(refine(&mut Slices::of_lengths(n, n - 1)), 3);
-        assert_eq!(refine(&mut Slices::of_lengths(n + 1, n)), 3);
+        met[number(Slices::holding(&vec![1; n])) as usize] += 1;
+        assert_eq!(number(Slices::of_lengths(n, n - 1)), 3);
+        assert_eq!(number(Slices::of_lengths(n + 1, n)), 3);
     }
     assert!(met[0] > 50 && met[9] > 50, "{met:?}");
 }

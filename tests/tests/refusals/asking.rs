@@ -1,12 +1,11 @@
 //! The figure's refusal, 9, and the planner's, 10.
 
-use super::common::{plan, refusal};
-use super::{bench_card, bench_with_line, card_of, BENCH_LINES};
+use super::common::{bench, card_of, plan, refusal};
 use trace_card_tests::model::{figure, plan_by_cells, plan_by_limit, MAX_LAYERS};
 
 #[test]
 fn the_figure_refuses_by_the_header() {
-    let card = bench_card();
+    let card = bench::card();
     // The planes need not be there.
     for length in [64, 100, 256] {
         let cut = &card[..length];
@@ -28,14 +27,14 @@ fn the_figure_refuses_by_the_header() {
         }
     }
     // Nor are they looked at.
-    let spoilt = card_of(&BENCH_LINES, &[0, 255, 255, 0, 0, 0]);
+    let spoilt = card_of(&bench::LINES, &[0, 255, 255, 0, 0, 0]);
     assert_eq!(figure(&spoilt, &plan(&[5, 1])), Ok(1));
 }
 
 #[test]
 fn planning_refuses_limits_below_the_step_only() {
     for step in [0_u64, 1, 2, 1000, 65_535] {
-        let card = bench_with_line(5, format!("step={step}").as_bytes());
+        let card = bench::with_line(5, format!("step={step}").as_bytes());
         for limit in [0, step / 2, step.saturating_sub(1), step] {
             let answer = plan_by_limit(&card, limit);
             if limit < step {
@@ -56,6 +55,6 @@ fn planning_refuses_limits_below_the_step_only() {
         }
     }
     // Planes that would be refused by a reading are no matter to the planner.
-    let spoilt = card_of(&BENCH_LINES, &[0, 255, 255, 0, 0, 0]);
+    let spoilt = card_of(&bench::LINES, &[0, 255, 255, 0, 0, 0]);
     assert_eq!(plan_by_limit(&spoilt, 10).unwrap().plan, plan(&[3]));
 }

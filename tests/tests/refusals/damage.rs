@@ -1,9 +1,9 @@
 //! Damaged headers: whatever opens is a right header.
 
-use super::bench_card;
-use super::common::planes_on_card;
+use super::common::{bench, planes_on_card};
 use trace_card_tests::model::open;
 use trace_card_tests::random::cases::Case;
+use trace_card_tests::random::damage::{damage_header, damaged_at};
 use trace_card_tests::random::Random;
 
 /// Opening damaged bytes never panics, refuses with 5, 6 or 7 only, and opens nothing that
@@ -40,34 +40,20 @@ fn check_damaged(card: &[u8]) -> bool {
 #[test]
 fn headers_damaged_byte_by_byte() {
     let mut random = Random::new(303);
-    let mut cards = vec![bench_card()];
+    let mut cards = vec![bench::card()];
     for _ in 0..8 {
         cards.push(Case::small(&mut random).write().card);
     }
+    let bytes: Vec<u8> = (0..=255).collect();
     let mut opened_anyway = 0;
     for card in cards {
         let header = open(&card).unwrap().header_length;
         for position in 0..header {
-            for byte in 0..=255 {
-                let mut damaged = card.clone();
-                damaged[position] = byte;
+            for damaged in damaged_at(&card, position, &bytes) {
                 opened_anyway += u64::from(check_damaged(&damaged));
                 // The header alone may be the right one of a shorter card.
-                check_damaged(&damaged[..header]);
+                check_damaged(&damaged[..header.min(damaged.len())]);
             }
-            for byte in [
-                b'0', b'1', b'9', b',', b'=', b'+', b'-', b' ', 10, 13, 0, 255,
-            ] {
-                let mut longer = card.clone();
-                longer.insert(position, byte);
-                check_damaged(&longer);
-            }
-            let mut shorter = card.clone();
-            shorter.remove(position);
-            check_damaged(&shorter);
-            let mut swapped = card.clone();
-            swapped.swap(position, position + usize::from(position + 1 < header));
-            check_damaged(&swapped);
         }
     }
     // Some damage gives another right header, such as another step.
@@ -78,17 +64,9 @@ fn headers_damaged_byte_by_byte() {
 fn headers_damaged_in_many_places() {
     let mut random = Random::new(304);
     for _ in 0..30_000 {
-        let mut card = bench_card();
-        for _ in 0..1 + random.below(5) {
-            let position = random.below(64) as usize;
-            card[position] = match random.below(4) {
-                0 => random.draw() as u8,
-                1 => b'0' + random.below(10) as u8,
-                2 => card[random.below(64) as usize],
-                _ => random.pick(b"=,\n"),
-            };
-        }
-        let length = random.below(card.len() as u64 + 1) as usize;
+        let mut card = bench::card();
+        damage_header(&mut random, &mut card, bench::HEADER_BYTES);
+        let length = random.length(0, card.len());
         check_damaged(&card);
         check_damaged(&card[..length]);
     }

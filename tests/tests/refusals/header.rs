@@ -1,7 +1,7 @@
 //! Opening's refusals: 5, 6 with its line, and 7.
 
-use super::common::refusal;
-use super::{all_refuse, bench_card, bench_with_line, card_of, BENCH_CELLS, BENCH_LINES};
+use super::all_refuse;
+use super::common::{bench, card_of, header_lines, refusal};
 use trace_card_tests::model::{open, Curve};
 use trace_card_tests::random::cases::Case;
 use trace_card_tests::random::Random;
@@ -9,7 +9,7 @@ use trace_card_tests::random::Random;
 #[test]
 fn a_cut_in_the_header_gives_5() {
     let mut random = Random::new(301);
-    let mut cards = vec![bench_card()];
+    let mut cards = vec![bench::card()];
     for _ in 0..10 {
         cards.push(Case::small(&mut random).write().card);
     }
@@ -26,7 +26,7 @@ fn a_cut_in_the_header_gives_5() {
 fn a_line_without_its_end_gives_5_before_6() {
     // The line is wrong as well, but its byte 10 is looked for first.
     for number in 1..=7 {
-        let mut card = card_of(&BENCH_LINES[..number - 1], &[]);
+        let mut card = card_of(&bench::LINES[..number - 1], &[]);
         card.extend(b"wrong");
         all_refuse(&card, refusal(5, [0, 0]));
         // An earlier wrong line comes before a later cut, and its end makes it wrong.
@@ -102,12 +102,12 @@ fn wrong_numbers_give_6_with_their_line() {
         (7, "cells", "6", ["5", "7"]),
     ];
     for (line, key, right, past) in numbers {
-        let as_it_was = bench_with_line(line, format!("{key}={right}").as_bytes());
+        let as_it_was = bench::with_line(line, format!("{key}={right}").as_bytes());
         assert!(open(&as_it_was).is_ok());
         let mut wrong = wrong_numbers(key, right);
         wrong.extend(past.map(|number| format!("{key}={number}").into_bytes()));
         for text in wrong {
-            all_refuse(&bench_with_line(line, &text), refusal(6, [line as u64, 0]));
+            all_refuse(&bench::with_line(line, &text), refusal(6, [line as u64, 0]));
         }
     }
 }
@@ -115,16 +115,7 @@ fn wrong_numbers_give_6_with_their_line() {
 #[test]
 fn sizes_at_their_ends() {
     let header = |rows: u64, cols: u64| {
-        let lines = [
-            format!("rows={rows}"),
-            format!("cols={cols}"),
-            "levels=0".to_string(),
-            "curve=cubic".to_string(),
-            "step=65535".to_string(),
-            "planes=0".to_string(),
-            "cells=0".to_string(),
-        ];
-        let lines: Vec<&[u8]> = lines.iter().map(String::as_bytes).collect();
+        let lines = header_lines((rows, cols), 0, "cubic", 65_535, &[0], 0);
         card_of(&lines, &[])
     };
     for (rows, cols) in [(1, 1), (1, 8192), (8192, 1), (64, 128), (90, 91)] {
@@ -160,9 +151,9 @@ fn wrong_curves_give_6() {
         "Curve=cubic",
         "linear",
     ] {
-        all_refuse(&bench_with_line(4, text.as_bytes()), refusal(6, [4, 0]));
+        all_refuse(&bench::with_line(4, text.as_bytes()), refusal(6, [4, 0]));
     }
-    let cubic = open(&bench_with_line(4, b"curve=cubic")).unwrap();
+    let cubic = open(&bench::with_line(4, b"curve=cubic")).unwrap();
     assert_eq!(cubic.curve, Curve::Cubic);
 }
 
@@ -209,29 +200,20 @@ fn wrong_counts_give_6() {
         "Planes=5,1,0",
         "planes==5,1,0",
     ] {
-        all_refuse(&bench_with_line(6, text.as_bytes()), refusal(6, [6, 0]));
+        all_refuse(&bench::with_line(6, text.as_bytes()), refusal(6, [6, 0]));
     }
     // A wrong count of cells for other planes belongs to line 7, as the planes are right.
     for text in ["planes=4,1,0", "planes=5,2,0", "planes=23,23,0"] {
-        all_refuse(&bench_with_line(6, text.as_bytes()), refusal(6, [7, 0]));
+        all_refuse(&bench::with_line(6, text.as_bytes()), refusal(6, [7, 0]));
     }
 }
 
 #[test]
 fn wrong_totals_give_6_at_line_7() {
-    // 257 points need two cells a plane, 256 need one.
+    // 256 points need one cell a plane, 257 need two, 8,192 need 32.
     for (cols, planes, total) in [(256, 3, 3), (257, 3, 6), (8192, 23, 736)] {
         for cells in [0, 1, total - 1, total, total + 1, 32 * total, 1012, 1013] {
-            let lines = [
-                "rows=1".to_string(),
-                format!("cols={cols}"),
-                "levels=0".to_string(),
-                "curve=linear".to_string(),
-                "step=0".to_string(),
-                format!("planes={planes}"),
-                format!("cells={cells}"),
-            ];
-            let lines: Vec<&[u8]> = lines.iter().map(String::as_bytes).collect();
+            let lines = header_lines((1, cols), 0, "linear", 0, &[planes], cells);
             let card = card_of(&lines, &[]);
             if cells == total {
                 assert_eq!(open(&card).unwrap().cells, total);
@@ -245,7 +227,7 @@ fn wrong_totals_give_6_at_line_7() {
 #[test]
 fn lines_missing_doubled_or_swapped_give_6() {
     for number in 1..=7 {
-        let mut missing = BENCH_LINES.to_vec();
+        let mut missing = bench::LINES.to_vec();
         missing.remove(number - 1);
         // Without line 7 the bytes of the cells stand in its place; they hold no byte 10.
         let expected = if number == 7 {
@@ -253,22 +235,22 @@ fn lines_missing_doubled_or_swapped_give_6() {
         } else {
             refusal(6, [number as u64, 0])
         };
-        all_refuse(&card_of(&missing, &BENCH_CELLS), expected);
-        let mut empty = BENCH_LINES.to_vec();
+        all_refuse(&card_of(&missing, &bench::CELLS), expected);
+        let mut empty = bench::LINES.to_vec();
         empty.insert(number - 1, b"");
         all_refuse(
-            &card_of(&empty, &BENCH_CELLS),
+            &card_of(&empty, &bench::CELLS),
             refusal(6, [number as u64, 0]),
         );
         if number < 7 {
-            let mut doubled = BENCH_LINES.to_vec();
-            doubled.insert(number, BENCH_LINES[number - 1]);
+            let mut doubled = bench::LINES.to_vec();
+            doubled.insert(number, bench::LINES[number - 1]);
             let next = refusal(6, [number as u64 + 1, 0]);
-            all_refuse(&card_of(&doubled, &BENCH_CELLS), next);
-            let mut swapped = BENCH_LINES.to_vec();
+            all_refuse(&card_of(&doubled, &bench::CELLS), next);
+            let mut swapped = bench::LINES.to_vec();
             swapped.swap(number - 1, number);
             let here = refusal(6, [number as u64, 0]);
-            all_refuse(&card_of(&swapped, &BENCH_CELLS), here);
+            all_refuse(&card_of(&swapped, &bench::CELLS), here);
         }
     }
 }
@@ -276,23 +258,13 @@ fn lines_missing_doubled_or_swapped_give_6() {
 #[test]
 fn bytes_after_the_last_cell_give_7() {
     let mut random = Random::new(302);
-    let mut cards = vec![bench_card()];
+    let mut cards = vec![bench::card()];
     for _ in 0..10 {
         cards.push(Case::small(&mut random).write().card);
     }
     // A card of no cells.
-    cards.push(card_of(
-        &[
-            b"rows=1",
-            b"cols=1",
-            b"levels=6",
-            b"curve=cubic",
-            b"step=0",
-            b"planes=0,0,0,0,0,0,0,0,0,0,0,0,0",
-            b"cells=0",
-        ],
-        &[],
-    ));
+    let lines = header_lines((1, 1), 6, "cubic", 0, &[0; 13], 0);
+    cards.push(card_of(&lines, &[]));
     for card in cards {
         assert!(open(&card).is_ok());
         for more in [1, 31, 32, 33, 40_000] {
@@ -304,7 +276,7 @@ fn bytes_after_the_last_cell_give_7() {
         }
     }
     // A doubled last line makes the cells too many.
-    let mut doubled = BENCH_LINES.to_vec();
+    let mut doubled = bench::LINES.to_vec();
     doubled.push(b"cells=6");
-    all_refuse(&card_of(&doubled, &BENCH_CELLS), refusal(7, [0, 0]));
+    all_refuse(&card_of(&doubled, &bench::CELLS), refusal(7, [0, 0]));
 }

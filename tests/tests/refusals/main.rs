@@ -1,4 +1,4 @@
-//! Every refusal: its number, its details, its turn, and the slices it leaves alone.
+//! Every refusal of the model: its number, its details, its turn, and the slices it leaves alone.
 
 #[path = "../common/mod.rs"]
 mod common;
@@ -19,42 +19,6 @@ use trace_card_tests::model::{
 const Q: i32 = -1234;
 const V: i64 = -5678;
 const B: u8 = 0xA7;
-
-/// A card put together from lines, each given without its end, and first bytes of cells.
-fn card_of(lines: &[&[u8]], cells: &[u8]) -> Vec<u8> {
-    let mut card = Vec::new();
-    for line in lines {
-        card.extend_from_slice(line);
-        card.push(10);
-    }
-    for &first in cells {
-        card.push(first);
-        card.extend([0; 31]);
-    }
-    card
-}
-
-const BENCH_LINES: [&[u8]; 7] = [
-    b"rows=1",
-    b"cols=5",
-    b"levels=1",
-    b"curve=linear",
-    b"step=1",
-    b"planes=5,1,0",
-    b"cells=6",
-];
-const BENCH_CELLS: [u8; 6] = [4, 4, 7, 5, 1, 1];
-
-fn bench_card() -> Vec<u8> {
-    card_of(&BENCH_LINES, &BENCH_CELLS)
-}
-
-/// The bench card with one of its lines, numbered from 1, replaced.
-fn bench_with_line(number: usize, line: &[u8]) -> Vec<u8> {
-    let mut lines = BENCH_LINES;
-    lines[number - 1] = line;
-    card_of(&lines, &BENCH_CELLS)
-}
 
 /// Runs a reading call on filled slices of these lengths; they keep the filling where it
 /// is refused.

@@ -1,14 +1,17 @@
 //! Reading's and showing's refusals: 3, 9 and 8.
 
-use super::common::{plan, planes_on_card, refusal, sizes_of, whole_in};
-use super::{bench_card, card_of, on_slices, read_on, show_on};
+use super::common::{
+    bench, card_of, header_lines, plan, planes_on_card, refusal, sizes_of, whole_in,
+};
+use super::{on_slices, read_on, show_on};
 use trace_card_tests::model::{open, read, refine, show, Plan, MAX_LAYERS};
 use trace_card_tests::random::cases::Case;
+use trace_card_tests::random::plans::plan_of_most;
 use trace_card_tests::random::Random;
 
 #[test]
 fn reading_refuses_lengths() {
-    let card = bench_card();
+    let card = bench::card();
     for lengths in [(4, 5), (6, 5), (5, 4), (5, 6), (0, 0), (6, 6), (4, 4)] {
         // The plan and the planes are wrong too, but 3 comes first.
         let mut spoilt = card.clone();
@@ -29,7 +32,7 @@ fn reading_refuses_lengths() {
 
 #[test]
 fn reading_refuses_plans() {
-    let card = bench_card();
+    let card = bench::card();
     let refused = |card: &[u8], first: &[u64]| read_on(card, &plan(first), 5).unwrap_err();
     assert!(read_on(&card, &plan(&[5, 1]), 5).is_ok());
     assert_eq!(refused(&card, &[6]), refusal(9, [0, 0]));
@@ -64,7 +67,7 @@ fn reading_refuses_plans() {
 
 #[test]
 fn reading_refuses_the_plan_before_the_planes() {
-    let mut card = bench_card();
+    let mut card = bench::card();
     card[64] = 0;
     assert_eq!(
         read_on(&card, &plan(&[5, 2]), 5).unwrap_err(),
@@ -78,7 +81,7 @@ fn reading_refuses_the_plan_before_the_planes() {
 
 #[test]
 fn every_spare_bit_is_seen_in_planes_of_the_plan_only() {
-    let card = bench_card();
+    let card = bench::card();
     // The cells of the bench card: five of layer 0 with 3 points, one of layer 1 with 2.
     for cell in 0..6_usize {
         let layer = usize::from(cell == 5);
@@ -107,7 +110,7 @@ fn every_spare_bit_is_seen_in_planes_of_the_plan_only() {
 
 #[test]
 fn a_top_plane_with_no_1_is_refused() {
-    let card = bench_card();
+    let card = bench::card();
     let with_first_byte = |cell: usize, byte: u8| {
         let mut spoilt = card.clone();
         spoilt[64 + 32 * cell] = byte;
@@ -129,15 +132,7 @@ fn a_top_plane_with_no_1_is_refused() {
         assert!(show_on(&with_first_byte(cell, 0), 5).is_ok());
     }
     // Of 257 points, the 1 may be the last one alone; the next bit is a spare one.
-    let lines: [&[u8]; 7] = [
-        b"rows=1",
-        b"cols=257",
-        b"levels=0",
-        b"curve=linear",
-        b"step=0",
-        b"planes=1",
-        b"cells=2",
-    ];
+    let lines = header_lines((1, 257), 0, "linear", 0, &[1], 2);
     let (_, coefficients, _) = show_on(&card_of(&lines, &[0, 1]), 257).unwrap();
     assert_eq!(coefficients[255..], [0, 1]);
     for first_bytes in [[0, 0], [0, 2], [0, 3], [1, 2]] {
@@ -150,15 +145,7 @@ fn a_top_plane_with_no_1_is_refused() {
 fn the_first_wrong_plane_in_card_order_is_given() {
     // Layer 1 has its top plane before layer 0: the order is layer 1 at p 2, layers 0 and
     // 1 at p 1, layers 0 and 1 at p 0.
-    let lines: [&[u8]; 7] = [
-        b"rows=1",
-        b"cols=5",
-        b"levels=1",
-        b"curve=cubic",
-        b"step=9",
-        b"planes=2,3,0",
-        b"cells=5",
-    ];
+    let lines = header_lines((1, 5), 1, "cubic", 9, &[2, 3, 0], 5);
     // 128 is a spare bit, 1 is a point's; 0 is wrong for cells 0 and 1, the top planes.
     let refused =
         |cells: [u8; 5], first: &[u64]| match read_on(&card_of(&lines, &cells), &plan(first), 5) {
@@ -227,15 +214,11 @@ fn planes_damaged_at_random() {
         let length = if random.once_in(2) {
             card.len()
         } else {
-            let header = opened.header_length;
-            header + random.below((card.len() - header + 1) as u64) as usize
+            random.length(opened.header_length, card.len())
         };
         let cut = &card[..length];
         let whole = whole_in(&opened, length);
-        let mut some = whole;
-        for planes in &mut some {
-            *planes -= random.below(*planes + 1).min(random.below(*planes + 1));
-        }
+        let some = plan_of_most(&mut random, &whole);
         for (asked, answer) in [
             (some, read_on(cut, &some, case.count())),
             (whole, show_on(cut, case.count())),

@@ -1,7 +1,6 @@
 //! Refining's refusals: 3, 9 for the plan and then the layer, 11 and 8.
 
-use super::bench_card;
-use super::common::{plan, refusal};
+use super::common::{bench, plan, refusal};
 use super::V;
 use trace_card_tests::model::{refine, Plan, Reached, Refusal};
 
@@ -28,7 +27,7 @@ fn refine_on(
 fn refining_refuses_in_turn() {
     // A card whose fourth plane of layer 0 has a spare bit: refining layer 0 from 3,0,0
     // comes to it. Every group of faults, the first of them given.
-    let mut card = bench_card();
+    let mut card = bench::card();
     card[64 + 3 * 32] |= 8;
     for faults in 1_u32..32 {
         let is_set = |fault: u32| faults >> fault & 1 == 1;
@@ -80,7 +79,7 @@ fn refining_refuses_in_turn() {
 
 #[test]
 fn refining_refuses_layers() {
-    let card = bench_card();
+    let card = bench::card();
     let refused = |card: &[u8], first: &[u64], layer| {
         refine_on(card, &plan(first), layer, &[0; 5], 5).unwrap_err()
     };
@@ -103,7 +102,7 @@ fn refining_refuses_layers() {
 
 #[test]
 fn refining_takes_coefficients_of_23_digits_only() {
-    let card = bench_card();
+    let card = bench::card();
     for place in 0..5 {
         for wrong in [5_592_406, -2_796_203, i32::MAX, i32::MIN] {
             let mut coefficients = [0; 5];
@@ -132,7 +131,7 @@ fn refining_takes_coefficients_of_23_digits_only() {
 
 #[test]
 fn refining_looks_at_the_new_plane_only() {
-    let card = bench_card();
+    let card = bench::card();
     // Spoil every cell in turn and refine to every cell of layer 0 and of layer 1.
     for spoilt_cell in 0..6_usize {
         for spoil in [0x80, 0] {

@@ -17,7 +17,7 @@ use super::refusal::{self, Refusal};
 /// With at most this many plans, every plan is tried.
 pub const MOST_PLANS_TRIED: u64 = 4096;
 
-/// "planning [answers] the plan, its cells and its figure".
+/// What planning answers: "the plan, its cells and its figure".
 #[derive(Clone, Copy, Debug, PartialEq, Eq)]
 pub struct Planned {
     pub plan: Plan,

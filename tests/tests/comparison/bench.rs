@@ -1,0 +1,101 @@
+//! The calls of "Worked on the bench", by both.
+
+use super::both::{figure, plan_by_cells, plan_by_limit, read, refine, show, write, Slices};
+use super::common::{bench, plan, refusal};
+use trace_card_tests::model::{Curve, Refusal};
+use trace_card_tests::random::cases::Case;
+
+/// Writing in slices of the right lengths.
+fn write_sheet(
+    (rows, cols): (u64, u64),
+    levels: u64,
+    step: u64,
+    samples: Vec<i32>,
+) -> Result<Vec<u8>, Refusal> {
+    let case = Case {
+        rows,
+        cols,
+        levels,
+        curve: Curve::Linear,
+        step,
+        samples,
+    };
+    write(&case, [case.count(); 2], 32_768)
+}
+
+#[test]
+fn one_by_five_is_written() {
+    let card = write_sheet((1, 5), 1, 1, bench::SAMPLES.to_vec());
+    assert_eq!(card, Ok(bench::card()));
+}
+
+#[test]
+fn its_cuts_are_shown_and_read() {
+    let card = bench::card();
+    for shown in bench::shown() {
+        let cut = &card[..shown.length];
+        let mut slices = Slices::new(5);
+        assert_eq!(show(cut, &mut slices), Ok(shown.reached));
+        assert_eq!(slices.values, shown.values);
+        let mut fresh = Slices::new(5);
+        let read = read(cut, &shown.reached.plan, &mut fresh);
+        assert_eq!((read, fresh), (Ok(shown.reached), slices));
+        assert_eq!(figure(cut, &shown.reached.plan), Ok(shown.reached.figure));
+    }
+    let mut whole = Slices::new(5);
+    show(&card, &mut whole).unwrap();
+    assert_eq!(whole.coefficients, bench::COEFFICIENTS);
+    let cut_in_header = show(&card[..63], &mut Slices::new(5));
+    assert_eq!(cut_in_header, Err(refusal(5, [0, 0])));
+}
+
+/// From no planes to the three of the first 160 bytes.
+#[test]
+fn its_cut_is_refined_to_the_same() {
+    let [_, shown, ..] = bench::shown();
+    let cut = &bench::card()[..shown.length];
+    let mut slices = Slices::new(5);
+    let mut reached = read(cut, &plan(&[]), &mut slices).unwrap();
+    for _ in 0..3 {
+        reached = refine(cut, &reached.plan, 0, &mut slices).unwrap();
+    }
+    assert_eq!(reached, shown.reached);
+    assert_eq!(slices.values, shown.values);
+    let refused = refine(cut, &reached.plan, 0, &mut slices);
+    assert_eq!(refused, Err(refusal(9, [0, 0])));
+}
+
+#[test]
+fn its_plans() {
+    let card = bench::card();
+    for (limit, planned) in bench::planned_by_limit() {
+        assert_eq!(plan_by_limit(&card, limit), Ok(planned));
+    }
+    assert_eq!(plan_by_limit(&card, 0), Err(refusal(10, [0, 0])));
+    for (cells, planned) in bench::planned_by_cells() {
+        assert_eq!(plan_by_cells(&card, cells), Ok(planned));
+    }
+}
+
+/// "8,192 points pass, 8,193 give 1. Step 65,535 passes, 65,536 gives 2. Reading 1,048,576
+/// gives 4."
+#[test]
+fn the_limits() {
+    let flat = |rows: u64, cols: u64, step| {
+        write_sheet((rows, cols), 3, step, vec![5; (rows * cols) as usize])
+    };
+    for (rows, cols) in [(1, 8192), (8192, 1), (64, 128)] {
+        assert!(flat(rows, cols, 0).is_ok());
+    }
+    for (rows, cols) in [(1, 8193), (8193, 1), (3, 2731)] {
+        assert_eq!(flat(rows, cols, 0), Err(refusal(1, [0, 0])));
+    }
+    assert!(flat(2, 3, 65_535).is_ok());
+    assert_eq!(flat(2, 3, 65_536), Err(refusal(2, [0, 0])));
+    let mut samples = vec![1_048_575; 6];
+    assert!(write_sheet((2, 3), 1, 0, samples.clone()).is_ok());
+    samples[4] = 1_048_576;
+    samples[5] = -1_048_576;
+    let refused = write_sheet((2, 3), 1, 0, samples);
+    assert_eq!(refused, Err(refusal(4, [1, 1])));
+}

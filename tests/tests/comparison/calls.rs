@@ -1,0 +1,166 @@
+//! A call of the boundary and the memory lent to it, and what the proved code leaves there.
+
+use std::fmt::Debug;
+use trace_card_tests::boundary;
+use trace_card_tests::lent::{Lent, Room};
+
+/// A function of the boundary, with the numbers given to it.
+#[derive(Clone, Copy, Debug, PartialEq, Eq)]
+pub enum Call {
+    Write {
+        rows: u64,
+        cols: u64,
+        levels: u64,
+        curve: u64,
+        step: u64,
+    },
+    Read,
+    Show,
+    Refine {
+        layer: u64,
+    },
+    Figure,
+    PlanByLimit(u64),
+    PlanByCells(u64),
+}
+
+/// Every slice that some function takes; one that a function does not take is not given to it.
+#[derive(Clone, Debug, Default, PartialEq, Eq)]
+pub struct Memory {
+    // Only read.
+    pub samples: Vec<i32>,
+    pub card: Vec<u8>,
+    pub plan: Vec<u64>,
+    // Written to.
+    pub coefficients: Vec<i32>,
+    pub values: Vec<i64>,
+    pub output: Vec<u8>,
+    pub answer: Vec<u64>,
+}
+
+/// The name of a slice.
+#[derive(Clone, Copy, Debug, PartialEq, Eq)]
+pub enum Slice {
+    Samples,
+    Card,
+    Plan,
+    Coefficients,
+    Values,
+    Output,
+    Answer,
+}
+
+pub const SLICES: [Slice; 7] = [
+    Slice::Samples,
+    Slice::Card,
+    Slice::Plan,
+    Slice::Coefficients,
+    Slice::Values,
+    Slice::Output,
+    Slice::Answer,
+];
+
+impl Memory {
+    pub fn length(&self, slice: Slice) -> usize {
+        match slice {
+            Slice::Samples => self.samples.len(),
+            Slice::Card => self.card.len(),
+            Slice::Plan => self.plan.len(),
+            Slice::Coefficients => self.coefficients.len(),
+            Slice::Values => self.values.len(),
+            Slice::Output => self.output.len(),
+            Slice::Answer => self.answer.len(),
+        }
+    }
+
+    /// Gives a slice another length, with zeros where it is longer.
+    pub fn resize(&mut self, slice: Slice, length: usize) {
+        match slice {
+            Slice::Samples => self.samples.resize(length, 0),
+            Slice::Card => self.card.resize(length, 0),
+            Slice::Plan => self.plan.resize(length, 0),
+            Slice::Coefficients => self.coefficients.resize(length, 0),
+            Slice::Values => self.values.resize(length, 0),
+            Slice::Output => self.output.resize(length, 0),
+            Slice::Answer => self.answer.resize(length, 0),
+        }
+    }
+}
+
+/// What a call returned, and all memory after it.
+pub type Left = (u64, Memory);
+
+/// Makes the call, each slice in a room of its own.
+pub fn proved(call: Call, memory: &Memory, room: Room) -> Left {
+    let samples = Lent::new(&memory.samples, room);
+    let card = Lent::new(&memory.card, room);
+    let plan = Lent::new(&memory.plan, room);
+    let mut coefficients = Lent::new(&memory.coefficients, room);
+    let mut values = Lent::new(&memory.values, room);
+    let mut output = Lent::new(&memory.output, room);
+    let mut answer = Lent::new(&memory.answer, room);
+    let returned = {
+        let (samples, card, plan) = (samples.get(), card.get(), plan.get());
+        let (coefficients, values) = (coefficients.lend(), values.lend());
+        let (output, answer) = (output.lend(), answer.lend());
+        match call {
+            Call::Write {
+                rows,
+                cols,
+                levels,
+                curve,
+                step,
+            } => boundary::write(
+                samples,
+                rows,
+                cols,
+                levels,
+                curve,
+                step,
+                coefficients,
+                values,
+                output,
+                answer,
+            ),
+            Call::Read => boundary::read(card, plan, coefficients, values, answer),
+            Call::Show => boundary::show(card, coefficients, values, answer),
+            Call::Refine { layer } => {
+                boundary::refine(card, plan, layer, coefficients, values, answer)
+            }
+            Call::Figure => boundary::figure(card, plan, answer),
+            Call::PlanByLimit(limit) => boundary::plan_by_limit(card, limit, answer),
+            Call::PlanByCells(cells) => boundary::plan_by_cells(card, cells, answer),
+        }
+    };
+    let left = Memory {
+        samples: samples.take_back(),
+        card: card.take_back(),
+        plan: plan.take_back(),
+        coefficients: coefficients.take_back(),
+        values: values.take_back(),
+        output: output.take_back(),
+        answer: answer.take_back(),
+    };
+    (returned, left)
+}
+
+/// The first number of a slice that is not as it should be.
+fn first_wrong<T: Debug + PartialEq>(name: &str, found: &[T], expected: &[T]) -> Option<String> {
+    let place = (0..expected.len()).find(|&place| found[place] != expected[place])?;
+    let (found, expected) = (&found[place], &expected[place]);
+    Some(format!("{name}[{place}] is {found:?}, not {expected:?}"))
+}
+
+/// Where two memories differ.
+pub fn differences(found: &Memory, expected: &Memory) -> Vec<String> {
+    let wrong = [
+        first_wrong("samples", &found.samples, &expected.samples),
+        first_wrong("card", &found.card, &expected.card),
+        first_wrong("plan", &found.plan, &expected.plan),
+        first_wrong("coefficients", &found.coefficients, &expected.coefficients),
+        first_wrong("values", &found.values, &expected.values),
+        first_wrong("output", &found.output, &expected.output),
+        first_wrong("answer", &found.answer, &expected.answer),
+    ];
+    wrong.into_iter().flatten().collect()
+}

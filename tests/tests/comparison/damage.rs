@@ -1,0 +1,62 @@
+//! Damaged headers through every call but writing.
+
+use super::both::{figure, plan_by_cells, plan_by_limit, read, refine, show, written, Slices};
+use trace_card_tests::boundary::PLAN;
+use trace_card_tests::model::open;
+use trace_card_tests::random::cases::Case;
+use trace_card_tests::random::damage::{damage_header, damaged_at};
+use trace_card_tests::random::Random;
+
+/// Every call on the same bytes, from no planes. Answers whether they open.
+fn every_call(card: &[u8], layer: u64, points: usize) -> bool {
+    let none = [0; PLAN];
+    // Coefficients out of range are refusal 11; refining wants some that are not.
+    let slices = Slices::holding(&vec![1; points]);
+    let _ = show(card, &mut slices.clone());
+    let _ = read(card, &none, &mut slices.clone());
+    let _ = refine(card, &none, layer, &mut slices.clone());
+    for asked in [layer, 70_000, u64::MAX] {
+        let _ = plan_by_limit(card, asked);
+        let _ = plan_by_cells(card, asked);
+    }
+    // No planes are a plan of every card.
+    figure(card, &none).is_ok()
+}
+
+/// Each byte of some headers damaged; and the card cut there.
+#[test]
+fn headers_damaged_byte_by_byte() {
+    let mut random = Random::new(532);
+    let mut opened_anyway = 0;
+    for round in 0..5 {
+        // Every byte on the first card, some on the others.
+        let (first, step) = if round == 0 { (0, 1) } else { (round, 9) };
+        let mut bytes: Vec<u8> = (first..=255).step_by(step).collect();
+        bytes.extend(b"0123456789,=\n-+ ");
+        let case = Case::small(&mut random);
+        let card = written(&case);
+        for position in 0..open(&card).unwrap().header_length {
+            for damaged in damaged_at(&card, position, &bytes) {
+                opened_anyway += u64::from(every_call(&damaged, 0, case.count()));
+            }
+            assert!(!every_call(&card[..position], 0, case.count()));
+        }
+        let longer = [&card[..], &[0]].concat();
+        assert!(!every_call(&longer, 0, case.count()));
+    }
+    assert!(opened_anyway > 20, "{opened_anyway}");
+}
+
+#[test]
+fn headers_damaged_in_many_places() {
+    let mut random = Random::new(533);
+    for _ in 0..4000 {
+        let case = Case::small(&mut random);
+        let mut card = written(&case);
+        let header = open(&card).unwrap().header_length;
+        damage_header(&mut random, &mut card, header);
+        let length = random.length(0, card.len());
+        every_call(&card, random.below(3), case.count());
+        every_call(&card[..length], 0, case.count());
+    }
+}
