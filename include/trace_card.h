@@ -1,7 +1,7 @@
 /* The trace card: a sheet of whole numbers written coarse part first, readable from any cut behind its header, with one figure beside it: how far off any value may be.
  *
  * Every function returns the refusal's number, 0 where the call is accepted. A slice is a pointer to so many elements, then their number; the pointer
- * has to be valid for them, and slices that a call writes to must not overlap others. Coefficients and values have rows x cols elements each, or the call
+ * has to be valid for them (and not null, even of none), and slices that a call writes to must not overlap others. Coefficients and values have rows x cols elements each, or the call
  * is refused (3). A refused call changes nothing but the answer.
  *
  * answer has 24 numbers: [0] the refusal's number, [1] and [2] its details, [3] the card's length (write) or the plan's cells (planning),
