@@ -6,6 +6,7 @@ use native.Mathlib.Omega.{arith}
 use lib.ListN.{length, take, getD, length-set}
 use borrow.Author.Needs.{needs}
 use Rattle.text.specs.Decimal.{digits}
+use Rattle.layers.specs.Limits.{layersMost}
 use Rattle.header.specs.Header.{listText}
 use Rattle.header.proofs.Stores.{Put, put-none, put-more, put-byte}
 use Rattle.header.proofs.ListText.{list-one, list-more, list-longer, list-rises}
@@ -26,7 +27,7 @@ F l = l .before .before .before
 abbrev S : tie.After-put-number Inv-loop μ-loop → tie.Start Inv-loop μ-loop
 S f = f .before .before .before
 
-long : (s : tie.Start Inv-loop μ-loop) → length (s .args .t3) ≡ 13
+long : (s : tie.Start Inv-loop μ-loop) → length (s .args .t3) ≡ layersMost
 long s = search needs
 
 one : (s : tie.Start Inv-loop μ-loop) → listText (take 1 (s .args .t3)) ≡ digits (getD (s .args .t3) 0 0)
