@@ -6,6 +6,7 @@ pub mod Expansion
 pub mod Missing
 pub mod Offset
 pub mod Words
+pub mod Groups
 pub mod Firsts
 pub mod Fewest
 pub mod Examples

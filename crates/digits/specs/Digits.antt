@@ -2,8 +2,8 @@
 use mathlib.Core.Bool.{Bool, cond, _&&_}
 use mathlib.Core.List.{List, [], _∷_, _++_}
 use Prim.Native.Nat.{ℕ, zero, suc, _+_, _*_, _/_, _%_, _<_, _^_}
-use lib.IntN.{ℤ, pos, negℤ, natAbs, _-ℤ_, _*ℤ_}
-use lib.ListN.{replicate, drop}
+use lib.IntN.{ℤ, pos, negℤ, natAbs, _+ℤ_, _-ℤ_, _*ℤ_}
+use lib.ListN.{getD, replicate, drop}
 use lib.Signed.{leZ}
 use Rattle.integers.specs.Floor.{floorDiv}
 
@@ -55,6 +55,23 @@ digitsOf (suc n) q = lowest q ∷ digitsOf n (higher q)
 unfoldable pub bitsOf : ℕ → ℕ → List ℕ
 bitsOf zero b = []
 bitsOf (suc n) b = b % 2 ∷ bitsOf n (b / 2)
+
+-- ---- groups of eight digits (document 02, card 2)
+-- "the value of each of the 256 groups of eight digits": those of n groups from group g on, the digits of which are the bits of g
+unfoldable pub groupsFrom : ℕ → ℕ → List ℤ
+groupsFrom zero g = []
+groupsFrom (suc n) g = value (bitsOf 8 g) ∷ groupsFrom n (suc g)
+
+unfoldable pub groupValues : List ℤ
+groupValues = groupsFrom 256 0
+
+-- the entry of a word's lowest group
+unfoldable pub entry : List ℤ → ℕ → ℤ
+entry table word = getD table (word % 256) (pos 0)
+
+-- "the entries of its three groups, times 1, 256 and 65,536 from the lowest, added"
+unfoldable pub byGroups : List ℤ → ℕ → ℤ
+byGroups table word = entry table word +ℤ pos 256 *ℤ entry table (word / 256) +ℤ pos 65536 *ℤ entry table (word / 65536)
 
 -- ---- the fewest digits
 -- do n digits hold q? They reach from -odds n to evens n

@@ -1,9 +1,14 @@
 // Numbers to the base -2. A coefficient is an i32; a word holds its digits, digit p in bit p.
+mod table;
+
 ghost use mathlib.Core.Path.{_≡_};
 ghost use Prim.Native.Nat.{min};
 ghost use lib.IntN.{negℤ};
 ghost use Rattle.digits.specs.Digits as D;
 ghost use Rattle.digits.specs.Digits.{value, bitsOf, digitAt, fewest, digitsMost};
+pub use table::GROUPS;
+pub use table::by_groups;
+pub use table::group_values;
 
 // The number whose digits are the word's bits, the lowest of which adds its weight.
 pub fn even_places(word: u32) -> i64
