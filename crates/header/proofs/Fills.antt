@@ -30,6 +30,3 @@ module _ (f : ℕ → ℕ) (n : ℕ) where
   filled-all {l} {k} h w =
       ext-getD 0 l (tabulate n f) (w .long ∙ sym (length-tabulate n f))
       (λ i m. w .done i (omega (arith, w .long)) ∙ sym (getD-tabulate n f i 0 (omega (arith, w .long))))
-
-  pub filled-same : (g : ℕ → ℕ) {l : List ℕ} {k : ℕ} → ((i : ℕ) → i < k → f i ≡ g i) → Filled f n k l → Filled g n k l
-  filled-same g e w = record { long = w .long; done = λ i h. w .done i h ∙ e i h }

@@ -24,4 +24,5 @@ pub mod Counting
 pub mod Stores
 pub mod Fills
 pub mod Through
+pub mod Walk
 pub mod FigureCall

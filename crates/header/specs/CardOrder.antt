@@ -1,9 +1,10 @@
 -- Card order (document 01, "The card"): "Then the planes: p from 22 down to 0, and for each p every layer with P_k > p, layer 0 first."
 use mathlib.Core.Bool.{Bool, cond, _&&_}
 use mathlib.Core.List.{List}
-use Prim.Native.Nat.{ℕ, _+_, _*_, _-_}
+use mathlib.Core.Path.{_≡_}
+use Prim.Native.Nat.{ℕ, _+_, _*_, _-_, _<_}
 use lib.Dec.{ltb, leb}
-use lib.ListN.{getD}
+use lib.ListN.{length, getD}
 use Rattle.layers.specs.Limits.{layersMost}
 use Rattle.layers.specs.Lists.{total, count, tabulate}
 use Rattle.layers.specs.Sheet.{layers}
@@ -14,8 +15,11 @@ use Rattle.header.specs.Plan.{noPlan}
 use Rattle.header.specs.Opening.{right}
 
 -- the planes of layer j that stand before layer k's plane at place p: those at places above p, and that at p where j comes before k
+abbrev pub passed : List ℕ → ℕ → ℕ → ℕ → ℕ
+passed planes k p j = getD planes j 0 - (p + cond (ltb j k) 0 1)
+
 abbrev pub planesBefore : Header → ℕ → ℕ → ℕ → ℕ
-planesBefore h k p j = planesOf h j - (p + cond (ltb j k) 0 1)
+planesBefore h = passed (h .planes)
 
 -- the cells that stand before it
 unfoldable pub cellsBefore : Header → ℕ → ℕ → ℕ
@@ -45,4 +49,16 @@ wholeIn h n = cond (right h) (wholePlan h n) noPlan
 -- the cells up to the end of layer k's plane at place p, where one plane of layer j spans `spans` j cells
 unfoldable pub cellsThrough : List ℕ → List ℕ → ℕ → ℕ → ℕ
 cellsThrough spans planes k p =
-    getD spans k 0 + total (λ j. getD spans j 0 * (getD planes j 0 - (p + cond (ltb j k) 0 1))) layersMost
+    getD spans k 0 + total (λ j. getD spans j 0 * passed planes k p j) layersMost
+
+-- does that plane end within `room` cells?
+abbrev pub within : List ℕ → List ℕ → ℕ → ℕ → ℕ → Bool
+within spans planes room k p = leb (cellsThrough spans planes k p) room
+
+-- where a walk in card order comes to layer k's plane at place p: the cells of the planes passed; and of each layer the planes found, which with those
+-- still to come are all that end within the room
+pub record Walked (spans planes : List ℕ) (room k p : ℕ) (found : List ℕ) (cells : ℕ) : Type 0 where
+  pub long : length found ≡ layersMost
+  pub sum : cells ≡ total (λ j. getD spans j 0 * passed planes k p j) layersMost
+  pub rest : (j : ℕ) → j < layersMost
+      → getD found j 0 + count (within spans planes room j) (getD planes j 0 - passed planes k p j) ≡ count (within spans planes room j) (getD planes j 0)

@@ -1,10 +1,10 @@
 // The planes that a header names: their cells, their limits, and those that are whole in the bytes behind it.
 ghost use mathlib.Core.Path.{_≡_};
-ghost use mathlib.Core.Bool.{true};
-ghost use Prim.Native.Nat.{ℕ, _*_, _<_, _≤_};
-ghost use lib.Dec.{leb};
+ghost use mathlib.Core.Bool.{true, cond};
+ghost use Prim.Native.Nat.{ℕ, _<_, _≤_};
+ghost use lib.Dec.{leb, ltb};
 ghost use lib.ListN.{getD};
-ghost use Rattle.layers.specs.Lists.{tabulate, count};
+ghost use Rattle.layers.specs.Lists.{tabulate};
 ghost use Rattle.layers.specs.Limits.{layersMost};
 ghost use Rattle.layers.specs.Sheet as S;
 ghost use Rattle.header.specs.Header as Hd;
@@ -108,7 +108,7 @@ pub fn is_right(header: Header) -> bool
 }
 
 // The cells that one plane of each layer spans.
-fn spans_of(shape: Shape) -> [u64; MOST_LAYERS]
+pub fn spans_of(shape: Shape) -> [u64; MOST_LAYERS]
     ensures { λ r. ⌜ r ≡ tabulate layersMost (Hd.cellsAt shape) ⌝ }
 {
     let mut spans = [0u64; MOST_LAYERS];
@@ -151,35 +151,74 @@ pub fn cells_before(header: Header, layer: usize, p: u64) -> u64
     cells_through(spans, counts, layer, p) - spans[layer]
 }
 
-// How many planes of layer k are whole in n bytes behind the header: from the top down, until one is not.
-fn whole_of(spans: [u64; MOST_LAYERS], planes: [u64; MOST_LAYERS], k: usize, n: usize) -> u64
-    requires { ⌜ (k < layersMost) × ((j : ℕ) → (getD spans j 0 ≤ Hd.planeCellsMost) × (getD planes j 0 ≤ Hd.placesMost)) ⌝ }
-    ensures { λ r. ⌜ r ≡ count (λ p. leb (Hd.cellBytes * K.cellsThrough spans planes k p) n) (getD planes k 0) ⌝ }
+// The planes found whole so far in card order, and the cells passed.
+struct Passed {
+    planes: [u64; MOST_LAYERS],
+    cells: u64,
+}
+
+// The cells of a layer's plane at place p; 0 where it has none there.
+pub fn cells_at(span: u64, count: u64, p: u64) -> u64
+    ensures { λ r. ⌜ r ≡ cond (ltb p count) span 0 ⌝ }
 {
-    let mut left = planes[k];
-    let mut found: u64 = 0;
-    while 0 < left {
-        if n < CELL_BYTES * cells_through(spans, planes, k, left - 1) as usize {
-            return found;
-        }
-        left -= 1;
-        found += 1;
+    if p < count {
+        return span;
     }
-    found
+    0
+}
+
+// 1 where a layer has a plane at place p and it ends within the room; otherwise 0.
+fn whole_count(count: u64, p: u64, end: u64, room: u64) -> u64
+    ensures { λ r. ⌜ r ≡ cond (ltb p count) (cond (leb end room) 1 0) 0 ⌝ }
+{
+    if count <= p {
+        return 0;
+    }
+    if end <= room {
+        return 1;
+    }
+    0
+}
+
+// Passes the planes at place p, layer 0 first: one that ends within `room` cells is whole.
+fn whole_at(
+    spans: [u64; MOST_LAYERS],
+    counts: [u64; MOST_LAYERS],
+    p: u64,
+    room: u64,
+    before: Passed,
+) -> Passed
+    requires { ⌜ ((j : ℕ) → (getD spans j 0 ≤ Hd.planeCellsMost) × (getD counts j 0 ≤ Hd.placesMost)) ⌝ }
+    requires { ⌜ K.Walked spans counts room 0 p (before .planes) (before .cells) ⌝ }
+    ensures { λ r. ⌜ K.Walked spans counts room layersMost p (r .planes) (r .cells) ⌝ }
+{
+    let mut planes = before.planes;
+    let mut cells = before.cells;
+    for k in 0..MOST_LAYERS {
+        cells += cells_at(spans[k], counts[k], p);
+        planes[k] += whole_count(counts[k], p, cells, room);
+    }
+    Passed { planes, cells }
 }
 
 // The planes that are whole in n bytes behind a header that opening can give; none behind any other.
+// One walk in card order finds them all.
 pub fn whole_planes(header: Header, n: usize) -> Plan
     ensures { λ r. ⌜ r ≡ K.wholeIn header n ⌝ }
 {
-    let mut planes = [0u64; MOST_LAYERS];
+    let planes = [0u64; MOST_LAYERS];
     if !is_right(header) {
         return Plan { planes };
     }
     let spans = spans_of(header.shape);
     let counts = header.planes;
-    for k in 0..MOST_LAYERS {
-        planes[k] = whole_of(spans, counts, k, n);
+    let room = (n / CELL_BYTES) as u64;
+    let mut passed = Passed { planes, cells: 0 };
+    let mut p = MOST_PLACES;
+    while 0 < p {
+        p -= 1;
+        passed = whole_at(spans, counts, p, room, passed);
     }
-    Plan { planes }
+    let whole = passed.planes;
+    Plan { planes: whole }
 }

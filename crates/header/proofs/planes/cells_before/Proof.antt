@@ -14,10 +14,10 @@ use Rattle.layers.proofs.Lists.{getD-tabulate}
 use Rattle.header.specs.Header.{planeCells, cellsAt}
 use Rattle.header.specs.Opening.{right}
 use Rattle.header.specs.CardOrder.{cellsBefore, cellsThrough, cellsBeforeIn}
-use Rattle.header.proofs.Rightness.{Right, right-yes, all-few, counts-past}
+use Rattle.header.proofs.Rightness.{Right, right-yes, counts-past}
 use Rattle.header.proofs.Cells.{cells-there}
 use Rattle.header.proofs.CardOrder.{cells-through}
-use Rattle.header.proofs.Through.{Small, span-most}
+use Rattle.header.proofs.Through.{Small, header-small}
 use Rattle.header.proofs.planes.cells_before.Statement.{statement}
 use Rattle.header.proofs.planes.cells_before.Tie as tie
 
@@ -92,8 +92,7 @@ cells-through-requires : tie.Need-cells-through-requires
 cells-through-requires c κs =
     let e = E (c .before) in
     let s = S e in
-    let small : Small (c .spans-of .result) (s .args .header .planes) =
-    λ j. (rw (c .spans-of .ensures) (span-most (s .args .header .shape) j), all-few (s .args .header .shape) (s .args .header .planes) (long s) (rightly e .counts) j) in
+    let small : Small (c .spans-of .result) (s .args .header .planes) = rw (c .spans-of .ensures) (header-small (s .args .header) (rightly e) (long s)) in
     (c .before .before .if2 .left, small, omega (arith, c .before .if3 .left, small (s .args .layer) .1))
 
 mul-result : tie.Need-mul-result

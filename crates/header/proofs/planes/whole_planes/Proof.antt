@@ -1,42 +1,45 @@
--- The plan is filled layer by layer, each with the count of the planes that are there, which is that of the whole ones: the loops' sum over all the layers that there may be is the sum over the sheet's.
-use Prim.Native.Nat.{ℕ, _≤_, _<_, _-_}
+-- The walk goes from place to place: nothing is passed before the first, and behind the last the planes found are all that end within the room, which are the whole ones.
+use Prim.Native.Nat.{ℕ, suc, _-_, _/_}
 use mathlib.Core.Bool.{true, false}
 use mathlib.Core.List.{List}
-use mathlib.Core.Path.{_≡_, refl, sym, ap, _∙_}
+use mathlib.Core.Path.{_≡_, sym, ap, _∙_}
+use native.Mathlib.Nat.{le-refl}
 use native.Mathlib.Omega.{arith}
-use lib.ListN.{length, getD}
+use lib.ListN.{length}
 use borrow.Author.Needs.{needs}
 use borrow.Author.Tests.{not-true, not-false}
 use Rattle.layers.specs.Limits.{layersMost}
-use Rattle.layers.specs.Lists.{count, tabulate}
+use Rattle.layers.specs.Lists.{tabulate}
+use Rattle.header.specs.Header.{cellBytes, cellsAt}
 use Rattle.header.specs.Opening.{right}
-use Rattle.header.specs.CardOrder.{whole, wholeIn}
-use Rattle.header.proofs.Fills.{Filled, filled-none, filled-more, filled-same, filled-all}
-use Rattle.header.proofs.Rightness.{Right, right-yes, all-few}
-use Rattle.header.proofs.Through.{Small, there, span-most, there-whole}
+use Rattle.header.specs.CardOrder.{whole, wholeIn, Walked}
+use Rattle.header.proofs.Fills.{filled-all}
+use Rattle.header.proofs.Rightness.{Right, right-yes}
+use Rattle.header.proofs.Through.{Small, header-small, within-whole}
+use Rattle.header.proofs.Walk.{walk-first, walk-down, walk-last}
 use Rattle.header.proofs.planes.whole_planes.Statement.{statement}
 use Rattle.header.proofs.planes.whole_planes.Tie as tie
 
 abbrev Inv-loop : tie.InvT-loop
-Inv-loop n planes₀ spans counts k₀ planes k = (k ≤ layersMost) × Filled (λ j. count (there spans counts j n) (getD counts j 0)) layersMost k planes
+Inv-loop n spans counts room passed₀ p₀ passed p = (room ≡ n / cellBytes) × Walked spans counts room layersMost p (passed .planes) (passed .cells)
 
 abbrev μ-loop : tie.MeasureT-loop
-μ-loop n planes₀ spans counts k₀ planes k = layersMost - k
+μ-loop n spans counts room passed₀ p₀ passed p = p
 
-abbrev S : tie.After-spans-of Inv-loop μ-loop → tie.Start Inv-loop μ-loop
-S c = c .before .before .before
+abbrev S : tie.Else1 Inv-loop μ-loop → tie.Start Inv-loop μ-loop
+S e = e .before .before
 
-abbrev W : tie.At-loop Inv-loop μ-loop → tie.After-spans-of Inv-loop μ-loop
-W l = l .before .before
+is-so : (e : tie.Else1 Inv-loop μ-loop) → right (S e .args .header) ≡ true
+is-so e = sym (e .before .is-right .ensures) ∙ not-false _ (e .if1 .left)
+
+rightly : (e : tie.Else1 Inv-loop μ-loop) → Right (S e .args .header)
+rightly e = right-yes (S e .args .header) (is-so e)
 
 long : (s : tie.Start Inv-loop μ-loop) → length (s .args .header .planes) ≡ layersMost
 long s = search needs
 
-is-true : (c : tie.After-spans-of Inv-loop μ-loop) → right (S c .args .header) ≡ true
-is-true c = sym (c .before .before .is-right .ensures) ∙ not-false _ (c .before .if1 .left)
-
-rightly : (c : tie.After-spans-of Inv-loop μ-loop) → Right (S c .args .header)
-rightly c = right-yes (S c .args .header) (is-true c)
+small : (w : tie.After-spans-of Inv-loop μ-loop) → Small (w .spans-of .result) (S (w .before) .args .header .planes)
+small w = rw (w .spans-of .ensures) (header-small (S (w .before) .args .header) (rightly (w .before)) (long (S (w .before))))
 
 is-right-requires : tie.Need-is-right-requires Inv-loop μ-loop
 is-right-requires c κs = tt
@@ -49,42 +52,35 @@ spans-of-requires : tie.Need-spans-of-requires Inv-loop μ-loop
 spans-of-requires c κs = tt
 
 loop-holds : tie.Need-loop-holds Inv-loop μ-loop
-loop-holds c = (omega arith, filled-none _ _ _ refl)
+loop-holds c = (omega arith, walk-first (small (c .before)) (omega arith))
 
-whole-of-requires : tie.Need-whole-of-requires Inv-loop μ-loop
-whole-of-requires c κs =
-    let w = W (c .before) in
-    let s = S w in
-    let small : Small (w .spans-of .result) (s .args .header .planes) =
-    λ j. (rw (w .spans-of .ensures) (span-most (s .args .header .shape) j), all-few (s .args .header .shape) (s .args .header .planes) (long s) (rightly w .counts) j) in
-    (c .loop-test .taken, small)
+sub-p : tie.Need-sub-p Inv-loop μ-loop
+sub-p c = omega arith
 
-mul-planes : tie.Need-mul-planes Inv-loop μ-loop
-mul-planes c = omega arith
-
-array-write-planes : tie.Need-array-write-planes Inv-loop μ-loop
-array-write-planes c = omega arith
-
-add-k : tie.Need-add-k Inv-loop μ-loop
-add-k c = omega arith
+whole-at-requires : tie.Need-whole-at-requires Inv-loop μ-loop
+whole-at-requires c κs =
+    let l = c .before in
+    let e : l .loop .p ≡ suc (l .loop .p - 1) = omega (arith, c .loop-test .taken) in
+    (small (l .before .before), walk-down (rw e at (l .loop .inv .1)))
 
 loop-less : tie.Need-loop-less Inv-loop μ-loop
 loop-less c = omega arith
 
 loop-again : tie.Need-loop-again Inv-loop μ-loop
-loop-again c = (omega arith, filled-more _ _ _ (c .whole-of .ensures) (c .before .loop-test .taken) (c .before .before .loop .inv .1))
+loop-again c = (c .before .before .loop .inv .0, c .whole-at .ensures)
 
 returns-2 : tie.Need-returns-2 Inv-loop μ-loop
 unfolding wholeIn
 returns-2 c =
-    let l = c .before in
-    let w = W l in
-    let h = S w .args .header in
-    let n = S w .args .n in
-    let same : (j : ℕ) → j < l .loop .k → count (there (w .spans-of .result) (h .planes) j n) (getD (h .planes) j 0) ≡ whole h n j =
-    λ j i. ap (λ (ws : List ℕ). count (there ws (h .planes) j n) (getD (h .planes) j 0)) (w .spans-of .ensures) ∙ (there-whole h (rightly w) n j (omega (arith, l .loop .inv .0))) in
-    let all : l .loop .planes ≡ tabulate layersMost (whole h n) = filled-all _ _ (c .loop-test .left) (filled-same _ _ (whole h n) same (l .loop .inv .1)) in
-    rw (is-true w) (ap (λ (ps : List ℕ). record { planes = ps }) all)
+    let l = c .before .before in
+    let w = l .before .before in
+    let s = S (w .before) in
+    let h = s .args .header in
+    let e : l .loop .p ≡ 0 = omega (arith, c .before .loop-test .left) in
+    let end : Walked (tabulate layersMost (cellsAt (h .shape))) (h .planes) _ layersMost 0 (l .loop .passed .planes) (l .loop .passed .cells) = rw (e, w .spans-of .ensures) at (l .loop .inv .1) in
+    let all : l .loop .passed .planes ≡ tabulate layersMost (whole h (s .args .n)) =
+    filled-all _ _ (le-refl layersMost) (record { long = end .long; done = λ j i. walk-last end j i ∙ within-whole (s .args .n) (l .loop .inv .0) h (rightly (w .before)) j i }) in
+    rw (is-so (w .before)) (ap (λ (ps : List ℕ). record { planes = ps }) all)
 
 pub whole-planes-spec : {M : Type 1} → statement M
 whole-planes-spec =
@@ -96,10 +92,8 @@ whole-planes-spec =
     returns
     spans-of-requires
     loop-holds
-    whole-of-requires
-    mul-planes
-    array-write-planes
-    add-k
+    sub-p
+    whole-at-requires
     loop-less
     loop-again
     returns-2)

@@ -1,0 +1,13 @@
+-- Each arm is one of the contract's two cases.
+use borrow.Author.Tests.{lt-ltb, le-ltb}
+use Rattle.header.proofs.planes.cells_at.Statement.{statement}
+use Rattle.header.proofs.planes.cells_at.Tie as tie
+
+returns : tie.Need-returns
+returns c = rw (lt-ltb _ _ (c .if1 .taken))
+
+returns-2 : tie.Need-returns-2
+returns-2 c = rw (le-ltb _ _ (c .if1 .left))
+
+pub cells-at-spec : {M : Type 1} → statement M
+cells-at-spec = tie.close (tie.spec returns returns-2)
