@@ -3,7 +3,7 @@ use mathlib.Core.Path.{_≡_, refl, sym, ap, _∙_}
 use mathlib.Core.Bool.{cond, _&&_}
 use mathlib.Core.List.{List}
 use Prim.Native.Nat.{ℕ, _+_, _*_, _-_, _^_, _<_, _≤_}
-use native.Mathlib.Nat.{le-refl, pow-le-pow-right, mul-le-mul-right}
+use native.Mathlib.Nat.{le-refl, pow-le-pow-right, mul-le-mul-right, zero-mul}
 use native.Mathlib.Decide.{decLt, ℕ-discrete}
 use native.Mathlib.Omega.{arith}
 use borrow.Author.Tests.{lt-ltb, le-ltb, le-leb, lt-leb}
@@ -49,22 +49,6 @@ module _ (ws : List ℕ) (start n p : ℕ) (bit : ℕ → ℕ) where
       elim (decLt j (length ws)) [
         | yes l ↦ let k : start ≤ j = omega arith in with-at j l ∙ rw (le-leb start j k, le-ltb j (start + n) a) (omega arith)
         | no l ↦ with-past j (omega arith)
-      ]
-
-  -- a word grows by at most one bit
-  pub with-most : ((i : ℕ) → bit i ≤ 1) → (j : ℕ) → getD (wordsWith ws start n p bit) j 0 ≤ getD ws j 0 + 2 ^ p
-  with-most h j =
-      elim (decLt j start) [
-        | yes a ↦ omega (arith, with-before j a)
-        | no a ↦
-            elim (decLt j (start + n)) [
-              | yes b ↦
-                  elim (decLt j (length ws)) [
-                    | yes l ↦ omega (arith, with-in j (omega arith) b l, at-most (bit (j - start)) p p (h (j - start)) (le-refl p))
-                    | no l ↦ omega (arith, with-past j (omega arith))
-                  ]
-              | no b ↦ omega (arith, with-after j (omega arith))
-            ]
       ]
 
   -- words that are so by place
@@ -129,3 +113,27 @@ with-run ws start n m p f g h =
           ∙ ap (λ (x : ℕ). getD ws j 0 + x * 2 ^ p) (h (j - (start + n)) (omega arith) ∙ ap f d)
     ])
     (λ j a. with-after vs (start + n) m p g j (omega arith) ∙ with-after ws start n p f j (omega arith))
+
+-- the same numbers, given at another place
+pub with-same : (ws : List ℕ) (start n p q : ℕ) (f g : ℕ → ℕ) → ((i : ℕ) → i < n → f i * 2 ^ p ≡ g i * 2 ^ q)
+    → wordsWith ws start n p f ≡ wordsWith ws start n q g
+with-same ws start n p q f g h =
+    with-by ws start n q g (wordsWith ws start n p f) (with-length ws start n p f)
+    (λ j a. with-before ws start n p f j a)
+    (λ j a b l. with-in ws start n p f j a b l ∙ ap (λ (x : ℕ). getD ws j 0 + x) (h (j - start) (omega arith)))
+    (λ j a. with-after ws start n p f j a)
+
+-- no bits behind the first m
+pub with-zeros : (ws : List ℕ) (start m n p : ℕ) (f : ℕ → ℕ) → m ≤ n → ((i : ℕ) → m ≤ i → i < n → f i ≡ 0)
+    → wordsWith ws start m p f ≡ wordsWith ws start n p f
+with-zeros ws start m n p f k h =
+    with-by ws start n p f (wordsWith ws start m p f) (with-length ws start m p f)
+    (λ j a. with-before ws start m p f j a)
+    (λ j a b l.
+    elim (decLt j (start + m)) [
+      | yes c ↦ with-in ws start m p f j a c l
+      | no c ↦
+          let none : f (j - start) * 2 ^ p ≡ 0 = ap (λ (x : ℕ). x * 2 ^ p) (h (j - start) (omega arith) (omega arith)) ∙ zero-mul (2 ^ p) in
+          with-after ws start m p f j (omega arith) ∙ (let e : getD ws j 0 ≡ getD ws j 0 + f (j - start) * 2 ^ p = omega (arith, none) in e)
+    ])
+    (λ j a. with-after ws start m p f j (omega arith))

@@ -3,7 +3,7 @@ use mathlib.Core.Path.{_≡_, refl, sym, ap, _∙_}
 use mathlib.Core.Bool.{Bool, true, false, cond}
 use mathlib.Core.List.{List, _∷_}
 use Prim.Native.Nat.{ℕ, zero, suc, _+_, _*_, _/_, _%_, _^_, _<_, _≤_}
-use native.Mathlib.Nat.{pow-suc}
+use native.Mathlib.Nat.{le-refl, pow-suc}
 use native.Mathlib.Omega.{arith}
 use borrow.Author.Tests.{le-ltb}
 use lib.Dec.{ltb, leb}
@@ -29,6 +29,8 @@ use Rattle.card.specs.Planes.{ownLayer}
 use Rattle.card.specs.Reading.{bitOf, loaded, coefRead, coefsRead}
 use Rattle.card.specs.Words.{blockStart, spreadAll, wordRead, Read}
 use Rattle.card.proofs.LayerPlanes.{few-planes}
+use Rattle.card.proofs.PlaneSums.{at-most}
+use Rattle.card.proofs.WordSums.{sum-small}
 
 -- ---- a word by its bits
 total-front : (b : ℕ → ℕ) (n : ℕ) → total (λ p. b p * 2 ^ p) (suc n) ≡ b 0 + 2 * total (λ p. b (suc p) * 2 ^ p) n
@@ -82,11 +84,15 @@ module _ (h : Header) (long : ℕ) (bs : List ℕ) (plan : ℕ → ℕ) where
       times true b w = refl
       times false b w = omega arith
 
-  pub number-read : (k i : ℕ) → planesOf h k ≤ placesMost → wordRead h long bs plan k i < 2 ^ placesMost
-      → value (bitsOf 32 (wordRead h long bs plan k i)) ≡ coefRead h long bs plan k i
+  pub word-small : (k i : ℕ) → wordRead h long bs plan k i < 2 ^ placesMost
+  word-small k i =
+      rw (word-sum k i)
+      (sum-small (λ p. digitRead k i p * 2 ^ p) (λ p. at-most (digitRead k i p) p p (let one : digitRead k i p ≤ 1 = omega (arith, digit-small k i p) in one) (le-refl p)) placesMost)
+
+  pub number-read : (k i : ℕ) → planesOf h k ≤ placesMost → value (bitsOf 32 (wordRead h long bs plan k i)) ≡ coefRead h long bs plan k i
   unfolding coefRead digitRead
-  number-read k i few small =
-      bits-more placesMost 32 (wordRead h long bs plan k i) (omega arith) small
+  number-read k i few =
+      bits-more placesMost 32 (wordRead h long bs plan k i) (omega arith) (word-small k i)
       ∙ ap (λ (w : ℕ). value (bitsOf placesMost w)) (word-sum k i)
       ∙ ap value (bits-sum (digitRead k i) placesMost (digit-small k i))
       ∙ value-past (planesOf h k) placesMost (digitRead k i) few (digit-past k i)
@@ -108,7 +114,7 @@ module _ (h : Header) (long : ℕ) (bs : List ℕ) (plan : ℕ → ℕ) where
       let e = w .word k i hk hi in
       getD-tabulate n _ p (pos 0) hp
       ∙ ap (λ (x : ℕ). value (bitsOf 32 x)) e
-      ∙ number-read k i (few-planes r k hk) (rw (← e) (w .small (blockStart sh k + i)))
+      ∙ number-read k i (few-planes r k hk)
       ∙ sym (getD-tabulate n _ p (pos 0) hp))
 
   pub read-right : (ws : List ℕ) → right h ≡ true → Read h long bs plan ws → spreadAll (h .shape) ws ≡ coefsRead h long bs plan

@@ -2,7 +2,7 @@
 use mathlib.Core.Path.{_≡_, refl, sym, ap, ap₂, _∙_}
 use mathlib.Core.Bool.{Bool, true, false, cond, not, _&&_, _||_}
 use mathlib.Core.List.{List}
-use Prim.Native.Nat.{ℕ, zero, suc, _+_, _*_, _-_, _/_, _%_, _^_, _<_, _≤_}
+use Prim.Native.Nat.{ℕ, zero, suc, _+_, _*_, _-_, _^_, _<_, _≤_}
 use native.Mathlib.Nat.{le-refl, two-pow-succ}
 use native.Mathlib.Decide.{decLt, ℕ-discrete}
 use native.Mathlib.Omega.{arith}
@@ -10,8 +10,6 @@ use borrow.Author.Tests.{lt-ltb, le-ltb}
 use lib.Dec.{ltb, eqb}
 use lib.ListN.{length, getD, replicate, length-replicate}
 use Rattle.digits.proofs.Firsts.{first-at, first-none}
-use Rattle.layers.specs.declared.Shape.{Shape}
-use Rattle.layers.specs.declared.Curve.the-variants.{Linear}
 use Rattle.layers.specs.Lists.{total}
 use Rattle.layers.specs.Sheet.{accepted, layers, layerSize}
 use Rattle.integers.proofs.Bools.{by, and-both}
@@ -21,88 +19,45 @@ use Rattle.header.specs.CardOrder.{cellsBefore}
 use Rattle.header.proofs.Totals.{total-same, total-none, total-bump}
 use Rattle.header.proofs.Total.{plane-room}
 use Rattle.card.specs.Reading.{bitOf, clean, hasOne, fine, loaded, badSlot, firstBad}
-use Rattle.card.specs.Words.{blockStart, wordsMost, bitAt, asked, fineAt, slotFine, slotWords, wordsWith, wordRead, Read, loadedAs}
+use Rattle.card.specs.Words.{blockStart, wordsMost, bitAt, asked, fineAt, slotFine, slotWords, wordsWith, wordRead, Read, loadedAs, slotNo, share, Partly}
 use Rattle.card.specs.declared.Loaded.the-variants.{Fine, Bad}
 use Rattle.card.proofs.ZeroBits.{bit-most}
 use Rattle.layers.proofs.Lists.{getD-zeros}
 use Rattle.card.proofs.PlaneSums.{at-most, with-length, with-in, with-before, with-after}
 use Rattle.card.proofs.SlotTests.{slot-none, slot-adds}
 use Rattle.card.proofs.Blocks.{blocks-apart, block-room, in-block}
-use Rattle.card.proofs.SlotOrder.{slotNo, slot-in, slot-here, slot-only, slot-last}
-
--- ---- a header's shape and counts alone: all that the planes depend on
-abbrev pub bare : Shape → List ℕ → Header
-bare sh counts = record { shape = sh; curve = Linear; step = 0; planes = counts; cells = 0 }
-
-module _ (h : Header) where
-  abbrev B : Header
-  B = bare (h .shape) (h .planes)
-
-  pub bare-before : (k p : ℕ) → cellsBefore h k p ≡ cellsBefore B k p
-  unfolding cellsBefore
-  bare-before k p = refl
-
-  pub bare-bad : (long : ℕ) (bs : List ℕ) (plan : ℕ → ℕ) → firstBad h long bs plan ≡ firstBad B long bs plan
-  unfolding firstBad badSlot fine clean hasOne bitOf cellsBefore
-  bare-bad long bs plan = refl
-
-  bare-word : (long : ℕ) (bs : List ℕ) (plan : ℕ → ℕ) (k i : ℕ) → wordRead B long bs plan k i ≡ wordRead h long bs plan k i
-  unfolding wordRead bitOf cellsBefore
-  bare-word long bs plan k i = refl
-
-  pub bare-read : (long : ℕ) (bs : List ℕ) (plan : ℕ → ℕ) (ws : List ℕ) → Read B long bs plan ws → Read h long bs plan ws
-  bare-read long bs plan ws r =
-      record { long-is = r .long-is; small = r .small; word = λ k i a b. r .word k i a b ∙ bare-word long bs plan k i }
-
-  -- the first slot that is bad, and none
-  module _ (long : ℕ) (bs : List ℕ) (plan : ℕ → ℕ) where
-    pub bad-is : (t : ℕ) → t < placesMost * layers (h .shape) → badSlot B long bs plan t ≡ true → ((u : ℕ) → u < t → badSlot B long bs plan u ≡ false) → loadedAs h long bs plan ≡ Bad (t % layers (h .shape))
-    bad-is t l e f =
-        let n = placesMost * layers (h .shape) in
-        let first : firstBad h long bs plan ≡ t = bare-bad long bs plan ∙ (unfold firstBad in first-at (badSlot B long bs plan) n 0 t (omega arith) (omega arith) e (λ i _ m. f i m)) in
-        rw (first, lt-ltb t n l)
-
-    pub none-is : ((u : ℕ) → u < placesMost * layers (h .shape) → badSlot B long bs plan u ≡ false) → loadedAs h long bs plan ≡ Fine
-    none-is f =
-        let n = placesMost * layers (h .shape) in
-        let first : firstBad h long bs plan ≡ 0 + n = bare-bad long bs plan ∙ (unfold firstBad in first-none (badSlot B long bs plan) n 0 (λ i _ m. f i (omega arith))) in
-        let out : n ≤ 0 + n = omega arith in
-        rw (first, le-ltb (0 + n) n out)
+use Rattle.card.proofs.SlotOrder.{slot-is, slot-same, slot-last}
 
 -- ---- sums of at most one bit a place
-pub bits-sum : (f : ℕ → ℕ) → ((p : ℕ) → f p ≤ 2 ^ p) → (n : ℕ) → total f n < 2 ^ n
+pub sum-small : (f : ℕ → ℕ) → ((p : ℕ) → f p ≤ 2 ^ p) → (n : ℕ) → total f n < 2 ^ n
 unfolding total
-bits-sum f h zero = omega arith
-bits-sum f h (suc n) = omega (arith, h n, bits-sum f h n, two-pow-succ n)
+sum-small f h zero = omega arith
+sum-small f h (suc n) = omega (arith, h n, sum-small f h n, two-pow-succ n)
 
 module _ (h : Header) (long : ℕ) (bs : List ℕ) (plan : ℕ → ℕ) where
   abbrev L : ℕ
   L = layers (h .shape)
 
-  -- what layer k's plane at place p has added to the word of point i after t slots
-  unfoldable pub share : ℕ → ℕ → ℕ → ℕ → ℕ
-  share t k i p = cond (loaded h long bs plan k p && ltb (slotNo (layers (h .shape)) k p) t) (bitOf h long bs k p i * 2 ^ p) 0
-
-  pub share-yes : (t k i p : ℕ) → loaded h long bs plan k p ≡ true → slotNo L k p < t → share t k i p ≡ bitOf h long bs k p i * 2 ^ p
+  pub share-yes : (t k i p : ℕ) → loaded h long bs plan k p ≡ true → slotNo h k p < t → share h long bs plan t k i p ≡ bitOf h long bs k p i * 2 ^ p
   unfolding share
-  share-yes t k i p a l = rw (and-both (loaded h long bs plan k p) (ltb (slotNo L k p) t) a (lt-ltb _ _ l))
+  share-yes t k i p a l = rw (and-both (loaded h long bs plan k p) (ltb (slotNo h k p) t) a (lt-ltb _ _ l))
 
-  pub share-no : (t k i p : ℕ) → loaded h long bs plan k p ≡ false → share t k i p ≡ 0
+  pub share-no : (t k i p : ℕ) → loaded h long bs plan k p ≡ false → share h long bs plan t k i p ≡ 0
   unfolding share
   share-no t k i p a = rw a
 
-  pub share-coming : (t k i p : ℕ) → t ≤ slotNo L k p → share t k i p ≡ 0
+  pub share-coming : (t k i p : ℕ) → t ≤ slotNo h k p → share h long bs plan t k i p ≡ 0
   unfolding share
-  share-coming t k i p l = by (loaded h long bs plan k p) (λ a. rw (a, le-ltb (slotNo L k p) t l)) (λ a. rw a)
+  share-coming t k i p l = by (loaded h long bs plan k p) (λ a. rw (a, le-ltb (slotNo h k p) t l)) (λ a. rw a)
 
   -- all are passed in the end
-  pub share-all : (t k i p : ℕ) → slotNo L k p < t → share t k i p ≡ cond (loaded h long bs plan k p) (bitOf h long bs k p i * 2 ^ p) 0
+  pub share-all : (t k i p : ℕ) → slotNo h k p < t → share h long bs plan t k i p ≡ cond (loaded h long bs plan k p) (bitOf h long bs k p i * 2 ^ p) 0
   unfolding share
-  share-all t k i p l = by (loaded h long bs plan k p) (λ a. rw (a, lt-ltb (slotNo L k p) t l)) (λ a. rw a)
+  share-all t k i p l = by (loaded h long bs plan k p) (λ a. rw (a, lt-ltb (slotNo h k p) t l)) (λ a. rw a)
 
-  pub share-same : (t k i p : ℕ) → (slotNo L k p ≡ t → ⊥) → share (t + 1) k i p ≡ share t k i p
+  pub share-same : (t k i p : ℕ) → (slotNo h k p ≡ t → ⊥) → share h long bs plan (t + 1) k i p ≡ share h long bs plan t k i p
   share-same t k i p ne =
-      elim (decLt (slotNo L k p) t) [
+      elim (decLt (slotNo h k p) t) [
         | yes l ↦ share-all (t + 1) k i p (omega arith) ∙ sym (share-all t k i p l)
         | no l ↦ share-coming (t + 1) k i p (omega arith) ∙ sym (share-coming t k i p (omega arith))
       ]
@@ -116,11 +71,11 @@ module _ (h : Header) (long : ℕ) (bs : List ℕ) (plan : ℕ → ℕ) where
   unfolding fine clean hasOne bitOf fineAt bitAt
   fine-at k p = refl
 
-  pub share-most : (t k i p : ℕ) → share t k i p ≤ 2 ^ p
+  pub share-most : (t k i p : ℕ) → share h long bs plan t k i p ≤ 2 ^ p
   share-most t k i p =
       by (loaded h long bs plan k p)
       (λ a.
-      elim (decLt (slotNo L k p) t) [
+      elim (decLt (slotNo h k p) t) [
         | yes l ↦
             let one : bitOf h long bs k p i ≤ 1 = omega (arith, bit-of k p i, bit-most bs (long + cellBytes * cellsBefore h k p) i) in
             omega (arith, share-yes t k i p a l, at-most (bitOf h long bs k p i) p p one (le-refl p))
@@ -129,23 +84,41 @@ module _ (h : Header) (long : ℕ) (bs : List ℕ) (plan : ℕ → ℕ) where
       (λ a. omega (arith, share-no t k i p a))
 
   -- ---- is a slot's plane fine?
-  pub fine-slot : (t : ℕ)
-      → slotFine bs (long + cellBytes * cellsBefore h (t % L) (placesMost - 1 - t / L)) (layerSize (h .shape) (t % L)) (planeCells (h .shape) (t % L)) (planesOf h (t % L)) (plan (t % L)) (placesMost - 1 - t / L)
-      ≡ not (badSlot h long bs plan t)
-  unfolding slotFine asked fineAt bitAt badSlot fine clean hasOne bitOf
-  fine-slot t = turned (loaded h long bs plan (t % L) (placesMost - 1 - t / L)) (fine h long bs (t % L) (placesMost - 1 - t / L))
+  bad-slot : (k p : ℕ) → k < L → p < placesMost → badSlot h long bs plan (slotNo h k p) ≡ loaded h long bs plan k p && not (fine h long bs k p)
+  unfolding badSlot
+  bad-slot k p l m = let o = slot-is h k p l m in sym (ap₂ (λ (x y : ℕ). loaded h long bs plan x y && not (fine h long bs x y)) (o .0) (o .1))
+
+  pub fine-slot : (k p : ℕ) → k < L → p < placesMost
+      → slotFine bs (long + cellBytes * cellsBefore h k p) (layerSize (h .shape) k) (planeCells (h .shape) k) (planesOf h k) (plan k) p ≡ not (badSlot h long bs plan (slotNo h k p))
+  unfolding slotFine asked
+  fine-slot k p l m =
+      ap (λ (f : Bool). not (loaded h long bs plan k p) || f) (sym (fine-at k p))
+      ∙ turned (loaded h long bs plan k p) (fine h long bs k p)
+      ∙ ap not (sym (bad-slot k p l m))
     where
       turned : (a f : Bool) → not a || f ≡ not (a && not f)
       turned true true = refl
       turned true false = refl
       turned false f = refl
 
--- ---- the words after t slots
-pub record Partly (h : Header) (long : ℕ) (bs : List ℕ) (plan : ℕ → ℕ) (t : ℕ) (ws : List ℕ) : Type 0 where
-  pub long-is : length ws ≡ wordsMost
-  pub rest : (j : ℕ) → blockStart (h .shape) (layers (h .shape)) ≤ j → getD ws j 0 ≡ 0
-  pub word : (k i : ℕ) → k < layers (h .shape) → i < cellPoints * planeCells (h .shape) k → getD ws (blockStart (h .shape) k + i) 0 ≡ total (share h long bs plan t k i) placesMost
+  -- the first slot that is bad, and none
+  pub bad-is : (k p : ℕ) → k < L → p < placesMost → badSlot h long bs plan (slotNo h k p) ≡ true → ((u : ℕ) → u < slotNo h k p → badSlot h long bs plan u ≡ false)
+      → loadedAs h long bs plan ≡ Bad k
+  bad-is k p l m e f =
+      let n = placesMost * L in
+      let t = slotNo h k p in
+      let inside : t < n = slot-last h k p l in
+      let first : firstBad h long bs plan ≡ t = unfold firstBad in first-at (badSlot h long bs plan) n 0 t (omega arith) (omega arith) e (λ i _ m. f i m) in
+      rw (first, lt-ltb t n inside, ← slot-is h k p l m .0)
 
+  pub none-is : ((u : ℕ) → u < placesMost * L → badSlot h long bs plan u ≡ false) → loadedAs h long bs plan ≡ Fine
+  none-is f =
+      let n = placesMost * L in
+      let first : firstBad h long bs plan ≡ 0 + n = unfold firstBad in first-none (badSlot h long bs plan) n 0 (λ i _ m. f i (omega arith)) in
+      let out : n ≤ 0 + n = omega arith in
+      rw (first, le-ltb (0 + n) n out)
+
+-- ---- the words after so many slots
 module _ (h : Header) (long : ℕ) (bs : List ℕ) (plan : ℕ → ℕ) where
   abbrev K : ℕ
   K = layers (h .shape)
@@ -168,7 +141,7 @@ module _ (h : Header) (long : ℕ) (bs : List ℕ) (plan : ℕ → ℕ) where
       elim (decLt j (blockStart (h .shape) K)) [
         | yes l ↦
             in-block (h .shape) K j l
-            (λ k i a b e. omega (arith, ap (λ (x : ℕ). getD ws x 0) e, w .word k i a b, bits-sum (share h long bs plan t k i) (share-most h long bs plan t k i) placesMost))
+            (λ k i a b e. omega (arith, ap (λ (x : ℕ). getD ws x 0) e, w .word k i a b, sum-small (share h long bs plan t k i) (share-most h long bs plan t k i) placesMost))
         | no l ↦ omega (arith, w .rest j (omega arith))
       ]
 
@@ -181,22 +154,16 @@ module _ (h : Header) (long : ℕ) (bs : List ℕ) (plan : ℕ → ℕ) where
         small = partly-small (placesMost * K) ws w;
         word = λ k i a b.
             w .word k i a (omega (arith, plane-room (h .shape) k))
-            ∙ total-same _ _ placesMost (λ p _. share-all h long bs plan (placesMost * K) k i p (slot-last K (omega arith) k p a));
+            ∙ total-same _ _ placesMost (λ p _. share-all h long bs plan (placesMost * K) k i p (slot-last h k p a));
       }
 
   -- one slot
-  module _ (ok : accepted (h .shape) ≡ true) (t : ℕ) (l : t < placesMost * K) (ws : List ℕ) (w : Partly h long bs plan t ws) where
-    abbrev k : ℕ
-    k = t % K
-
-    abbrev p : ℕ
-    p = placesMost - 1 - t / K
+  module _ (ok : accepted (h .shape) ≡ true) (k p : ℕ) (hk : k < K) (hp : p < placesMost) (ws : List ℕ) (w : Partly h long bs plan (slotNo h k p) ws) where
+    abbrev t : ℕ
+    t = slotNo h k p
 
     abbrev from : ℕ
     from = long + cellBytes * cellsBefore h k p
-
-    some : 0 < K
-    some = omega arith
 
     -- one that is not loaded
     partly-same : loaded h long bs plan k p ≡ false → Partly h long bs plan (t + 1) ws
@@ -209,9 +176,9 @@ module _ (h : Header) (long : ℕ) (bs : List ℕ) (plan : ℕ → ℕ) where
       where
         same : (j i q : ℕ) → j < K → q < placesMost → share h long bs plan t j i q ≡ share h long bs plan (t + 1) j i q
         same j i q a m =
-            elim (ℕ-discrete (slotNo K j q) t) [
+            elim (ℕ-discrete (slotNo h j q) t) [
               | yes e ↦
-                  let o = slot-only K some j q t a m e in
+                  let o = slot-same h j q k p a m hk hp e in
                   let n : loaded h long bs plan j q ≡ false = ap₂ (λ (x y : ℕ). loaded h long bs plan x y) (o .0) (o .1) ∙ out in
                   share-no h long bs plan t j i q n ∙ sym (share-no h long bs plan (t + 1) j i q n)
               | no e ↦ sym (share-same h long bs plan t j i q e)
@@ -222,14 +189,14 @@ module _ (h : Header) (long : ℕ) (bs : List ℕ) (plan : ℕ → ℕ) where
     partly-more is =
         record {
           long-is = with-length ws start n p bit ∙ w .long-is;
-          rest = λ j a. with-after ws start n p bit j (omega (arith, blocks-apart (h .shape) k K here)) ∙ w .rest j a;
+          rest = λ j a. with-after ws start n p bit j (omega (arith, blocks-apart (h .shape) k K hk)) ∙ w .rest j a;
           word = λ j i a b.
               elim (ℕ-discrete j k) [
                 | yes e ↦ rw e (own i (rw e at b))
                 | no e ↦
                     kept j i a b e
                     ∙ total-same (share h long bs plan t j i) (share h long bs plan (t + 1) j i) placesMost
-                    (λ q m. sym (share-same h long bs plan t j i q (λ z. e (slot-only K some j q t a m z .0))))
+                    (λ q m. sym (share-same h long bs plan t j i q (λ z. e (slot-same h j q k p a m hk hp z .0))))
               ];
         }
       where
@@ -242,9 +209,6 @@ module _ (h : Header) (long : ℕ) (bs : List ℕ) (plan : ℕ → ℕ) where
         bit : ℕ → ℕ
         bit = bitAt bs from
 
-        here : k < K
-        here = slot-in K some t l .1
-
         kept : (j i : ℕ) → j < K → i < cellPoints * planeCells (h .shape) j → (j ≡ k → ⊥) → getD (wordsWith ws start n p bit) (blockStart (h .shape) j + i) 0 ≡ total (share h long bs plan t j i) placesMost
         kept j i a b ne =
             elim (decLt j k) [
@@ -255,18 +219,19 @@ module _ (h : Header) (long : ℕ) (bs : List ℕ) (plan : ℕ → ℕ) where
         own : (i : ℕ) → i < n → getD (wordsWith ws start n p bit) (start + i) 0 ≡ total (share h long bs plan (t + 1) k i) placesMost
         own i b =
             let d : start + i - start ≡ i = omega arith in
-            let s : slotNo K k p ≡ t = slot-here K some t l in
-            with-in ws start n p bit (start + i) (omega arith) (omega arith) (omega (arith, w .long-is, block-room (h .shape) ok k here))
-            ∙ ap₂ (λ (x y : ℕ). x + bit y * 2 ^ p) (w .word k i here b) d
-            ∙ sym (total-bump (share h long bs plan t k i) (share h long bs plan (t + 1) k i) p placesMost (bit i * 2 ^ p) (omega arith)
-            (share-yes h long bs plan (t + 1) k i p is (omega arith) ∙ ap (λ (x : ℕ). x * 2 ^ p) (bit-of h long bs plan k p i) ∙ omega (arith, share-coming h long bs plan t k i p (omega arith)))
-            (λ q m ne. share-same h long bs plan t k i q (λ z. ne (slot-only K some k q t here m z .1))))
+            with-in ws start n p bit (start + i) (omega arith) (omega arith) (omega (arith, w .long-is, block-room (h .shape) ok k hk))
+            ∙ ap₂ (λ (x y : ℕ). x + bit y * 2 ^ p) (w .word k i hk b) d
+            ∙ sym (total-bump (share h long bs plan t k i) (share h long bs plan (t + 1) k i) p placesMost (bit i * 2 ^ p) hp
+            (share-yes h long bs plan (t + 1) k i p is (omega arith) ∙ ap (λ (x : ℕ). x * 2 ^ p) (bit-of h long bs plan k p i) ∙ omega (arith, share-coming h long bs plan t k i p (le-refl t)))
+            (λ q m ne. share-same h long bs plan t k i q (λ z. ne (slot-same h k q k p hk m hk hp z .1))))
 
     pub partly-next : (vs : List ℕ)
         → slotFine bs from (layerSize (h .shape) k) (planeCells (h .shape) k) (planesOf h k) (plan k) p ≡ true
         → vs ≡ slotWords bs from (layerSize (h .shape) k) (planeCells (h .shape) k) (planesOf h k) (plan k) p ws (blockStart (h .shape) k)
-        → Partly h long bs plan (t + 1) vs
+        → Partly h long bs plan (slotNo h (k + 1) p) vs
     partly-next vs f e =
-        by (asked (planesOf h k) (plan k) p)
+        let on : slotNo h (k + 1) p ≡ t + 1 = omega arith in
+        rw on
+        (by (asked (planesOf h k) (plan k) p)
         (λ a. rw (e ∙ slot-adds bs from (layerSize (h .shape) k) (planeCells (h .shape) k) (planesOf h k) (plan k) p ws (blockStart (h .shape) k) a f) (partly-more (unfold asked in a)))
-        (λ a. rw (e ∙ slot-none bs from (layerSize (h .shape) k) (planeCells (h .shape) k) (planesOf h k) (plan k) p ws (blockStart (h .shape) k) a .1) (partly-same (unfold asked in a)))
+        (λ a. rw (e ∙ slot-none bs from (layerSize (h .shape) k) (planeCells (h .shape) k) (planesOf h k) (plan k) p ws (blockStart (h .shape) k) a .1) (partly-same (unfold asked in a))))

@@ -1,7 +1,7 @@
 -- What the private functions work with: the coefficients of all layers as words, laid in layer order.
 -- The word of a coefficient is q and the weights of the odd places together: digit p of q is bit p of it, turned over at an odd place. Each
 -- layer's words fill whole cells, spare ones being the word of 0, so that a byte of a plane is one bit of eight neighbouring words.
-use mathlib.Core.Bool.{Bool, true, cond, not, _&&_, _||_}
+use mathlib.Core.Bool.{Bool, true, false, cond, not, _&&_, _||_}
 use mathlib.Core.List.{List, [], _++_}
 use mathlib.Core.Path.{_≡_}
 use Prim.Native.Nat.{ℕ, zero, suc, _+_, _*_, _-_, _/_, _%_, _^_, _<_, _≤_}
@@ -15,7 +15,9 @@ use Rattle.layers.specs.Sheet.{points, layers, layerSize, pointOf, placeIn, inL
 use Rattle.header.specs.declared.Header.{Header}
 use Rattle.header.specs.Header.{placesMost, cellBytes, cellPoints, placeCellsMost, planeCells}
 use Rattle.card.specs.Planes.{packed, allBelow, ownLayer}
-use Rattle.card.specs.Reading.{bitOf, loaded, slots, slotLayer, firstBad}
+use Rattle.card.specs.Reading.{bitOf, loaded, slots, slotLayer, badSlot, firstBad}
+use Rattle.card.specs.declared.Placed.{Placed}
+use Rattle.card.specs.declared.Placed.the-variants as Placed
 use Rattle.card.specs.declared.Loaded.{Loaded}
 use Rattle.card.specs.declared.Loaded.the-variants.{Fine, Bad}
 use Rattle.header.specs.CardOrder.{cellsBefore}
@@ -101,6 +103,26 @@ unfoldable pub wordsWith : List ℕ → ℕ → ℕ → ℕ → (ℕ → ℕ) �
 wordsWith ws start n p bit =
     tabulate (length ws) (λ j. getD ws j 0 + cond (leb start j && ltb j (start + n)) (bit (j - start) * 2 ^ p) 0)
 
+-- ---- a plane added by half bytes
+-- half h of the bytes from `from` on: the lower half of a byte comes first
+unfoldable pub halfAt : List ℕ → ℕ → ℕ → ℕ
+halfAt bs from h = getD bs (from + h / 2) 0 / 16 ^ (h % 2) % 16
+
+-- the table for place p: the four bits of each half byte, at that place
+abbrev pub halfBits : ℕ
+halfBits = 64
+
+unfoldable pub halves : ℕ → List ℕ
+halves p = tabulate halfBits (λ i. i / 4 / 2 ^ (i % 4) % 2 * 2 ^ p)
+
+unfoldable pub halved : List ℕ → List ℕ
+halved table = tabulate halfBits (λ i. getD table i 0 / 2)
+
+-- what the bytes add to word i by the table
+unfoldable pub added : List ℕ → List ℕ → ℕ → ℕ → ℕ
+added table bs from i = getD table (4 * halfAt bs from (i / 4) + i % 4) 0
+
+-- ---- one plane
 -- a plane's bits at `from`, n points of c cells: no spare bit, and a 1 where it is the top plane
 unfoldable pub fineAt : List ℕ → ℕ → ℕ → ℕ → Bool → Bool
 fineAt bs from n c top =
@@ -127,6 +149,31 @@ AllThere h long bs plan =
 abbrev pub loadedAs : Header → ℕ → List ℕ → (ℕ → ℕ) → Loaded
 loadedAs h long bs plan =
     cond (ltb (firstBad h long bs plan) (slots h long bs plan)) (Bad (slotLayer h long bs plan (firstBad h long bs plan))) Fine
+
+-- slots in card order, as `slotLayer` and `slotPlace` have them: that of layer k at place p
+abbrev pub slotNo : Header → ℕ → ℕ → ℕ
+slotNo h k p = (placesMost - 1 - p) * layers (h .shape) + k
+
+-- what layer k's plane at place p has added to the word of point i after t slots
+unfoldable pub share : Header → ℕ → List ℕ → (ℕ → ℕ) → ℕ → ℕ → ℕ → ℕ → ℕ
+share h long bs plan t k i p = cond (loaded h long bs plan k p && ltb (slotNo h k p) t) (bitOf h long bs k p i * 2 ^ p) 0
+
+-- the words after t slots: of layer k's point i, the bits of the planes loaded so far, each at its place
+pub record Partly (h : Header) (long : ℕ) (bs : List ℕ) (plan : ℕ → ℕ) (t : ℕ) (ws : List ℕ) : Type 0 where
+  pub long-is : length ws ≡ wordsMost
+  pub rest : (j : ℕ) → blockStart (h .shape) (layers (h .shape)) ≤ j → getD ws j 0 ≡ 0
+  pub word : (k i : ℕ) → k < layers (h .shape) → i < cellPoints * planeCells (h .shape) k
+      → getD ws (blockStart (h .shape) k + i) 0 ≡ total (share h long bs plan t k i) placesMost
+
+-- what the planes at place p leave: the cells up to their end and the words after them, or the first layer whose plane is bad
+abbrev pub FineBefore : Header → ℕ → List ℕ → (ℕ → ℕ) → ℕ → ℕ → Type 0
+FineBefore h long bs plan p k = (j : ℕ) → j < k → badSlot h long bs plan (slotNo h j p) ≡ false
+
+abbrev pub PlaceRead : Header → ℕ → List ℕ → (ℕ → ℕ) → ℕ → Placed → List ℕ → Type 0
+PlaceRead h long bs plan p (Placed.Fine c) ws =
+    (c ≡ cellsBefore h (layers (h .shape)) p) × FineBefore h long bs plan p (layers (h .shape)) × Partly h long bs plan (slotNo h (layers (h .shape)) p) ws
+PlaceRead h long bs plan p (Placed.Bad k) ws =
+    (k < layers (h .shape)) × (badSlot h long bs plan (slotNo h k p) ≡ true) × FineBefore h long bs plan p k
 
 -- the words of a reading: of layer k's point i, the bits of the planes loaded, each at its place
 unfoldable pub wordRead : Header → ℕ → List ℕ → (ℕ → ℕ) → ℕ → ℕ → ℕ

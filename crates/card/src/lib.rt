@@ -1,4 +1,5 @@
 // The card: writing a sheet, reading it with a plan, showing what is there, and refining a reading by a plane.
+mod adding;
 mod loading;
 mod putting;
 mod reading;
@@ -29,6 +30,12 @@ pub struct Reached {
     pub refusal: Refusal,
     pub plan: Plan,
     pub figure: u64,
+}
+
+// Whether the planes at one place are fine, with the cells up to their end, or the layer of the first one that is not.
+pub enum Placed {
+    Fine(usize),
+    Bad(usize),
 }
 
 // Whether the planes of a plan are fine, or the layer of the first one that is not.

@@ -1,20 +1,32 @@
-// Planes from a card's bytes: checked, and added to the words.
+// Planes from a card's bytes in card order: checked, and added to the words.
 ghost use mathlib.Core.Path.{_≡_};
-ghost use mathlib.Core.Bool.{true, cond, _||_};
+ghost use mathlib.Core.Bool.{true, _||_};
 ghost use lib.Dec.{ltb, eqb};
 ghost use Prim.Native.Nat.{ℕ, _+_, _*_, _-_, _/_, _%_, _^_, _<_, _≤_};
 ghost use lib.ListN.{length, getD, replicate};
+ghost use Rattle.layers.specs.Limits.{layersMost};
+ghost use Rattle.layers.specs.Lists.{tabulate};
+ghost use Rattle.layers.specs.Calls as C;
+ghost use Rattle.layers.specs.Sheet as S;
 ghost use Rattle.header.specs.Header as Hd;
 ghost use Rattle.header.specs.Plan as N;
 ghost use Rattle.header.specs.Opening as O;
+ghost use Rattle.header.specs.CardOrder as K;
 ghost use Rattle.card.specs.Planes as P;
 ghost use Rattle.card.specs.Words as W;
 use crate::Loaded;
+use crate::Placed;
+use crate::adding::HALF_BITS;
+use crate::adding::add_plane;
+use crate::adding::halved;
+use crate::adding::halves;
 use header::CELL_BYTES;
 use header::CELL_POINTS;
 use header::Header;
 use header::MOST_PLACES;
 use header::Plan;
+use layers::MOST_LAYERS;
+use layers::Shape;
 
 const PLACES: usize = MOST_PLACES as usize;
 
@@ -65,30 +77,8 @@ pub(crate) fn is_fine(bytes: &[u8], from: usize, n: usize, cells: usize, top: bo
     true
 }
 
-// The eight bits of a byte, added at place p to eight words.
-fn add_byte(byte: u8, p: u64, words: &mut [u32], first: usize)
-    requires { ⌜ (p < Hd.placesMost) × (first + 8 ≤ length (now words)) × ((i : ℕ) → getD (now words) i 0 < 2 ^ 31) ⌝ }
-    ensures { λ _. ⌜ now (words .exit) ≡ W.wordsWith (now (words .entry)) first 8 p (λ i. byte / 2 ^ i % 2) ⌝ }
-{
-    for j in 0..8usize {
-        let bit = ((byte >> j) % 2) as u32;
-        words[first + j] += bit << p;
-    }
-}
-
-// A plane's bits, added at place p to the words that begin at `start`.
-fn add_plane(bytes: &[u8], from: usize, cells: usize, p: u64, words: &mut [u32], start: usize)
-    requires { ⌜ (p < Hd.placesMost) × (cells ≤ W.wordsMost) × (start + Hd.cellPoints * cells ≤ length (now words)) × (from + Hd.cellBytes * cells ≤ length (now bytes)) ⌝ }
-    requires { ⌜ ((i : ℕ) → getD (now words) i 0 < 2 ^ 30) ⌝ }
-    ensures { λ _. ⌜ now (words .exit) ≡ W.wordsWith (now (words .entry)) start (Hd.cellPoints * cells) p (W.bitAt (now (bytes .entry)) from) ⌝ }
-{
-    let n = CELL_BYTES * cells;
-    for b in 0..n {
-        add_byte(bytes[from + b], p, words, start + 8 * b);
-    }
-}
-
-// One plane of a layer with `count` planes of which `want` are loaded: checked and added where it is one of them. False where it is not fine.
+// One plane of a layer with `count` planes of which `want` are loaded: checked and added where it is one of them; its spare bytes, which are 0, are
+// passed over. False where it is not fine.
 fn load_slot(
     bytes: &[u8],
     from: usize,
@@ -97,11 +87,12 @@ fn load_slot(
     count: u64,
     want: u64,
     p: u64,
+    table: &[u32; HALF_BITS],
     words: &mut [u32],
     start: usize,
 ) -> bool
-    requires { ⌜ (p < Hd.placesMost) × (count ≤ Hd.placesMost) × (n ≤ Hd.cellPoints * cells) × (cells ≤ W.wordsMost) × (start + Hd.cellPoints * cells ≤ length (now words)) ⌝ }
-    requires { ⌜ (W.asked count want p ≡ true → from + Hd.cellBytes * cells ≤ length (now bytes)) × ((i : ℕ) → getD (now words) i 0 < 2 ^ 30) ⌝ }
+    requires { ⌜ (p < Hd.placesMost) × (count ≤ Hd.placesMost) × (n ≤ Hd.cellPoints * cells) × (cells ≤ W.wordsMost) × (start + Hd.cellPoints * cells ≤ length (now words)) × (now table ≡ W.halves p) ⌝ }
+    requires { ⌜ (W.asked count want p ≡ true → from + Hd.cellBytes * cells ≤ length (now bytes)) × ((i : ℕ) → getD (now words) i 0 < 2 ^ 31) ⌝ }
     ensures { λ r. ⌜ (r ≡ W.slotFine (now (bytes .entry)) from n cells count want p) × (now (words .exit) ≡ W.slotWords (now (bytes .entry)) from n cells count want p (now (words .entry)) start) ⌝ }
 {
     if count <= p {
@@ -113,29 +104,67 @@ fn load_slot(
     if !is_fine(bytes, from, n, cells, p + 1 == count) {
         return false;
     }
-    add_plane(bytes, from, cells, p, words, start);
+    add_plane(bytes, from, (n + 7) / 8, table, words, start);
     true
 }
 
-// Where the next plane stands: behind this one, if the layer has it.
-fn behind(from: usize, cells: usize, count: u64, p: u64) -> usize
-    requires { ⌜ (cells ≤ W.wordsMost) × (from ≤ 2 ^ 63 + Hd.cellBytes * Hd.cellsMost) ⌝ }
-    ensures { λ r. ⌜ r ≡ from + cond (ltb p count) (Hd.cellBytes * cells) 0 ⌝ }
+// The points of each layer.
+fn sizes_of(shape: Shape) -> [usize; MOST_LAYERS]
+    ensures { λ r. ⌜ r ≡ tabulate layersMost (C.sizing shape) ⌝ }
 {
-    if p < count {
-        return from + CELL_BYTES * cells;
+    let mut sizes = [0usize; MOST_LAYERS];
+    for k in 0..MOST_LAYERS {
+        sizes[k] = layers::layer_size(shape, k);
     }
-    from
+    sizes
 }
 
-// Where layer k's words begin, those of the layer before it ending at `start`.
-fn block(k: usize, start: usize) -> usize
-    ensures { λ r. ⌜ r ≡ cond (eqb k 0) 0 start ⌝ }
+// The planes at place p, layer after layer, each checked and added to the words where the plan has it, until one is not fine. `before` cells stand
+// before them.
+fn load_place(
+    bytes: &[u8],
+    at: usize,
+    header: Header,
+    plan: Plan,
+    sizes: [usize; MOST_LAYERS],
+    spans: [u64; MOST_LAYERS],
+    p: u64,
+    table: &[u32; HALF_BITS],
+    before: usize,
+    words: &mut [u32],
+) -> Placed
+    requires { ⌜ (O.right header ≡ true) × (at ≤ length (now bytes)) × (p < Hd.placesMost) × (before ≡ K.cellsBefore header 0 p) ⌝ }
+    requires { ⌜ (sizes ≡ tabulate layersMost (C.sizing (header .shape))) × (spans ≡ tabulate layersMost (Hd.cellsAt (header .shape))) × (now table ≡ W.halves p) ⌝ }
+    requires { ⌜ W.AllThere header at (now bytes) (N.loads plan) × W.Partly header at (now bytes) (N.loads plan) (W.slotNo header 0 p) (now words) ⌝ }
+    ensures { λ r. ⌜ W.PlaceRead header at (now (bytes .entry)) (N.loads plan) p r (now (words .exit)) ⌝ }
 {
-    if k == 0 {
-        return 0;
+    let layers = layers::layer_count(header.shape);
+    let mut cells = before;
+    let mut start: usize = 0;
+    for k in 0..layers {
+        let n = sizes[k];
+        let span = spans[k];
+        let count = header.planes[k];
+        let want = plan.planes[k];
+        let from = at + CELL_BYTES * cells;
+        if !load_slot(
+            bytes,
+            from,
+            n,
+            span as usize,
+            count,
+            want,
+            p,
+            table,
+            words,
+            start,
+        ) {
+            return Placed::Bad(k);
+        }
+        cells += header::cells_at(span, count, p) as usize;
+        start += CELL_POINTS * span as usize;
     }
-    start
+    Placed::Fine(cells)
 }
 
 // The planes of a plan in card order, each checked and added to the words, until one is not fine.
@@ -150,24 +179,32 @@ pub(crate) fn load_body(
     requires { ⌜ W.AllThere header at (now bytes) (N.loads plan) ⌝ }
     ensures { λ r. ⌜ (r ≡ W.loadedAs header at (now (bytes .entry)) (N.loads plan)) × (r ≡ Loaded.Fine → W.Read header at (now (bytes .entry)) (N.loads plan) (now (words .exit))) ⌝ }
 {
-    let shape = header.shape;
-    let counts = header.planes;
-    let wanted = plan.planes;
-    let layers = layers::layer_count(shape);
-    let slots = PLACES * layers;
-    let mut from = at;
-    let mut start: usize = 0;
-    for t in 0..slots {
-        let p = (LAST_PLACE - t / layers) as u64;
-        let k = t % layers;
-        let n = layers::layer_size(shape, k);
-        let cells = header::plane_cells(shape, k) as usize;
-        let first = block(k, start);
-        if !load_slot(bytes, from, n, cells, counts[k], wanted[k], p, words, first) {
-            return Loaded::Bad(k);
+    let sizes = sizes_of(header.shape);
+    let spans = header::spans_of(header.shape);
+    let mut table = halves(LAST_PLACE as u64);
+    let mut cells: usize = 0;
+    for t in 0..PLACES {
+        let p = (LAST_PLACE - t) as u64;
+        match load_place(
+            bytes,
+            at,
+            header,
+            plan,
+            sizes,
+            spans,
+            p,
+            &table,
+            cells,
+            words,
+        ) {
+            Placed::Bad(layer) => {
+                return Loaded::Bad(layer);
+            }
+            Placed::Fine(next) => {
+                cells = next;
+                table = halved(table);
+            }
         }
-        from = behind(from, cells, counts[k], p);
-        start = first + CELL_POINTS * cells;
     }
     Loaded::Fine
 }

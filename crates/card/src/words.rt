@@ -4,12 +4,13 @@ ghost use mathlib.Core.Bool.{true};
 ghost use Prim.Native.Nat.{ℕ, _+_, _*_, _^_, _<_, _≤_};
 ghost use lib.ListN.{length, getD, replicate};
 ghost use lib.Seq.{sets};
-ghost use Rattle.digits.specs.Digits.{holds, value, bitsOf};
+ghost use Rattle.digits.specs.Digits.{holds, value, bitsOf, groupValues};
 ghost use Rattle.layers.specs.Limits.{layersMost};
 ghost use Rattle.layers.specs.Lists.{at, tabulate};
 ghost use Rattle.layers.specs.Sheet as S;
 ghost use Rattle.header.specs.Header as Hd;
 ghost use Rattle.card.specs.Words as W;
+use digits::GROUPS;
 use header::CELL_POINTS;
 use layers::MOST_LAYERS;
 use layers::Shape;
@@ -117,8 +118,9 @@ pub(crate) fn counts(words: &[u32], shape: Shape) -> [u64; MOST_LAYERS]
     planes
 }
 
-// The numbers of n words, put on a line of the sheet.
+// The numbers of n words, by the values of their groups of eight digits, put on a line of the sheet.
 fn spread_line(
+    table: &[i32; GROUPS],
     words: &[u32],
     start: usize,
     n: usize,
@@ -126,17 +128,25 @@ fn spread_line(
     first: usize,
     stride: usize,
 )
-    requires { ⌜ (start + n ≤ length (now words)) × ((i : ℕ) → getD (now words) i 0 < 2 ^ Hd.placesMost) ⌝ }
+    requires { ⌜ (now table ≡ groupValues) × (start + n ≤ length (now words)) × ((i : ℕ) → getD (now words) i 0 < 2 ^ Hd.placesMost) ⌝ }
     requires { ⌜ (0 < stride) × ((j : ℕ) → j < n → first + j * stride < length (now coefficients)) ⌝ }
     ensures { λ _. ⌜ W.Scattered (λ j. first + j * stride) n (λ j. value (bitsOf 32 (getD (now (words .entry)) (start + j) 0))) (now (coefficients .entry)) (now (coefficients .exit)) ⌝ }
 {
     for j in 0..n {
-        coefficients[first + j * stride] = digits::even_places(words[start + j]) as i32;
+        coefficients[first + j * stride] = digits::by_groups(table, words[start + j]) as i32;
     }
 }
 
 // The numbers of one layer's words, put at its points' places in the sheet.
-fn spread_layer(words: &[u32], start: usize, shape: Shape, layer: usize, coefficients: &mut [i32])
+fn spread_layer(
+    table: &[i32; GROUPS],
+    words: &[u32],
+    start: usize,
+    shape: Shape,
+    layer: usize,
+    coefficients: &mut [i32],
+)
+    requires { ⌜ now table ≡ groupValues ⌝ }
     requires { ⌜ (S.accepted shape ≡ true) × (layer < S.layers shape) ⌝ }
     requires { ⌜ (length (now coefficients) ≡ S.points shape) × (start + S.layerSize shape layer ≤ length (now words)) ⌝ }
     requires { ⌜ ((i : ℕ) → getD (now words) i 0 < 2 ^ Hd.placesMost) ⌝ }
@@ -145,6 +155,7 @@ fn spread_layer(words: &[u32], start: usize, shape: Shape, layer: usize, coeffic
     let l = layers::layer_lines(shape, layer);
     for r in 0..l.lines {
         spread_line(
+            table,
             words,
             start + r * l.points,
             l.points,
@@ -162,10 +173,11 @@ pub(crate) fn spread(words: &[u32], shape: Shape, coefficients: &mut [i32])
     requires { ⌜ ((i : ℕ) → getD (now words) i 0 < 2 ^ Hd.placesMost) ⌝ }
     ensures { λ _. ⌜ now (coefficients .exit) ≡ W.spreadAll shape (now (words .entry)) ⌝ }
 {
+    let table = digits::group_values();
     let layers = layers::layer_count(shape);
     let mut start: usize = 0;
     for k in 0..layers {
-        spread_layer(words, start, shape, k, coefficients);
+        spread_layer(&table, words, start, shape, k, coefficients);
         start += CELL_POINTS * header::plane_cells(shape, k) as usize;
     }
 }

@@ -20,3 +20,4 @@ pub mod Again
 pub mod Holds
 pub mod Refined
 pub mod Rows
+pub mod Tables

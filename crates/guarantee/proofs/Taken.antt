@@ -1,7 +1,7 @@
 -- A reading that is not refused. It tests that the bytes open, that the slices are as long as the sheet, that the plan asks for whole planes alone and that none of these is bad; so where all is well it answers by the card and the plan alone, whatever the slices held, and where it is not refused all is well.
 use mathlib.Core.Bool.{true, false, not, _&&_}
 use mathlib.Core.List.{List}
-use mathlib.Core.Path.{_≡_, refl, ap, ap₂, _∙_, subst}
+use mathlib.Core.Path.{_≡_, ap, ap₂, _∙_, subst}
 use Prim.Native.Nat.{ℕ, _+_, _-_, _<_, _≤_}
 use native.Mathlib.Nat.{mod-lt}
 use native.Mathlib.Omega.{arith}
@@ -25,7 +25,8 @@ use Rattle.header.proofs.Over.{none-over}
 use Rattle.header.proofs.Rightness.{Right, right-yes}
 use Rattle.card.specs.Reading.{fine, loaded, slotLayer, slotPlace, badSlot, slots, firstBad, wholeOf, firstRefusal, readOpened, reading}
 use Rattle.card.proofs.ReadCall.{readAs, lengths-good, good-lengths, checked-none, checked-passes, within}
-use Rattle.card.proofs.SlotOrder.{slotNo, slot-only, slot-last}
+use Rattle.card.specs.Words.{slotNo}
+use Rattle.card.proofs.SlotOrder.{slot-is, slot-last}
 use Rattle.card.proofs.LayerPlanes.{few-planes, whole-at, loaded-yes, loaded-by}
 use Rattle.guarantee.specs.Guarantee.{Slices}
 
@@ -84,10 +85,9 @@ module _ (h : Header) (long : ℕ) (bs : List ℕ) where
     passes-fine : Right h → ltb bad all ≡ false → AllFine plan
     unfolding badSlot firstBad
     passes-fine r e k p hk named asked =
-        let K = layers (h .shape) in
-        let t = slotNo K k p in
-        let own = slot-only K (omega arith) k p t hk (omega (arith, few-planes r k hk)) refl in
-        let last : t < all = slot-last K (omega arith) k p hk in
+        let t = slotNo h k p in
+        let own = slot-is h k p hk (omega (arith, few-planes r k hk)) in
+        let last : t < all = slot-last h k p hk in
         let good : loaded h long bs (loads plan) k p && not (fine h long bs k p) ≡ false =
         ap₂ (λ (x y : ℕ). loaded h long bs (loads plan) x y && not (fine h long bs x y)) (own .0) (own .1)
         ∙ first-least (badSlot h long bs (loads plan)) all 0 t (omega arith) (omega (arith, ltb-false bad all e)) in

@@ -1,4 +1,5 @@
 pub mod WrittenBack
 pub mod Refinements
 pub mod Guarantee
+pub mod Groups
 pub mod Bench

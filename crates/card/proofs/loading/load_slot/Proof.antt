@@ -1,14 +1,17 @@
 -- By the two tests, which say whether the plane is asked for; then by whether it is fine.
 use mathlib.Core.Path.{_≡_, sym, ap, _∙_}
 use mathlib.Core.Bool.{Bool, true, false}
-use Prim.Native.Nat.{ℕ, suc}
+use Prim.Native.Nat.{ℕ, suc, _+_, _*_, _/_, _<_, _≤_}
 use native.Mathlib.Omega.{arith}
 use borrow.Author.Tests.{not-true, not-false}
 use denote.Ref.{now}
 use native.Mathlib.Numerals.{add-one}
 use lib.Dec.{eqb}
-use Rattle.card.specs.Words.{asked, fineAt}
-use Rattle.card.proofs.SlotTests.{asked-yes, asked-less, asked-out, slot-none, slot-bad, slot-good}
+use Rattle.header.specs.Header.{cellPoints}
+use Rattle.card.specs.Words.{asked, bitAt, fineAt, added, wordsWith}
+use Rattle.card.proofs.PlaneSums.{with-zeros}
+use Rattle.card.proofs.HalfBytes.{half-small, with-added}
+use Rattle.card.proofs.SlotTests.{fine-zeros, asked-yes, asked-less, asked-out, slot-none, slot-bad, slot-good}
 use borrow.Author.Needs.{needs}
 use Rattle.card.proofs.loading.load_slot.Statement.{statement}
 use Rattle.card.proofs.loading.load_slot.Tie as tie
@@ -52,18 +55,36 @@ returns-3 : tie.Need-returns-3
 returns-3 c = let s = c .before .before .before .before .before .before in
     both (slot-bad (now (s .args .bytes)) (s .args .from) (s .args .n) (s .args .cells) (s .args .count) (s .args .want) (s .args .p) (now (s .args .words)) (s .args .start) (is-asked (c .before .before)) (fine-is (c .before) false (not-true (c .before .is-fine .result) (c .if3 .taken))))
 
+add-add-plane : tie.Need-add-add-plane
+add-add-plane c = search needs
+
 add-plane-requires : tie.Need-add-plane-requires
 add-plane-requires c κs = let s = c .before .before .before .before .before .before .before in
-    ((s .pre .0 .0, s .pre .0 .3, s .pre .0 .4, s .pre .1 .0 (is-asked (c .before .before .before))), s .pre .1 .1)
+    let room = s .pre .1 .0 (is-asked (c .before .before .before)) in
+    (omega (arith, s .pre .0), omega (arith, s .pre .0), omega (arith, s .pre .0, room), λ i. rw (s .pre .0 .5) (half-small (s .args .p) (s .pre .0 .0) i), s .pre .1 .1)
 
 same-length : tie.Need-same-length
 same-length c = search needs
 
+-- the bytes that have points add what all the plane's bits add, since the spare ones are 0
 returns-4 : tie.Need-returns-4
 returns-4 c = let e = c .before .before .before in
     let s = e .before .before .before .before .before .before .before in
-    let good = slot-good (now (s .args .bytes)) (s .args .from) (s .args .n) (s .args .cells) (s .args .count) (s .args .want) (s .args .p) (now (s .args .words)) (s .args .start) (is-asked (e .before .before .before)) (fine-is (e .before .before) true (not-false (e .before .before .is-fine .result) (e .before .if3 .left))) in
-    (sym (good .0), c .before .before .add-plane .ensures ∙ sym (good .1))
+    let bs = now (s .args .bytes) in
+    let ws = now (s .args .words) in
+    let n = s .args .n in
+    let some = 8 * ((n + 7) / 8) in
+    let all = cellPoints * s .args .cells in
+    let fine-here = fine-is (e .before .before) true (not-false (e .before .before .is-fine .result) (e .before .if3 .left)) in
+    let zeros : (i : ℕ) → some ≤ i → i < all → bitAt bs (s .args .from) i ≡ 0 = λ i l h. fine-zeros bs (s .args .from) n (s .args .cells) _ fine-here i (omega arith) h in
+    let good = slot-good bs (s .args .from) n (s .args .cells) (s .args .count) (s .args .want) (s .args .p) ws (s .args .start) (is-asked (e .before .before .before)) fine-here in (
+      sym (good .0),
+      c .before .before .add-plane .ensures
+          ∙ ap (λ table. wordsWith ws (s .args .start) some 0 (added table bs (s .args .from))) (s .pre .0 .5)
+          ∙ with-added (s .args .p) ws (s .args .start) some bs (s .args .from)
+          ∙ with-zeros ws (s .args .start) some all (s .args .p) (bitAt bs (s .args .from)) (omega (arith, s .pre .0)) zeros
+          ∙ sym (good .1),
+    )
 
 pub load-slot-spec : {M : Type 1} → statement M
 load-slot-spec =
@@ -75,6 +96,7 @@ load-slot-spec =
     add-is-fine
     is-fine-requires
     returns-3
+    add-add-plane
     add-plane-requires
     same-length
     returns-4)

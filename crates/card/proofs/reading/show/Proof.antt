@@ -5,7 +5,7 @@ use borrow.Author.Needs.{needs}
 use denote.Ref.{now}
 use Rattle.header.specs.declared.Plan.{Plan}
 use Rattle.header.specs.Opening.{Opening}
-use Rattle.header.specs.CardOrder.{wholePlan}
+use Rattle.header.specs.CardOrder.{wholePlan, wholeIn}
 use Rattle.card.specs.declared.Reached.{Reached}
 use Rattle.card.specs.Reading.{told, wholeOf, readOpened, showing}
 use Rattle.header.proofs.Refusing.{refusing, header-right}
@@ -36,10 +36,11 @@ whole-planes-requires c κs = search needs
 
 read-opened-requires : tie.Need-read-opened-requires
 read-opened-requires c κs =
-    let t = c .before .before .before .before in
+    let w = c .before .before in
+    let t = w .before .before in
     let o = L t in
     let bs = now (S o .args .bytes) in
-    (header-right bs (o .«open» .result) (o .«open» .ensures) (t .enum-told .given .1), header-here bs (o .«open» .result) (o .«open» .ensures) (t .enum-told .given .1))
+    (header-right bs (o .«open» .result) (o .«open» .ensures) (t .enum-told .given .1), header-here bs (o .«open» .result) (o .«open» .ensures) (t .enum-told .given .1), w .whole-planes .ensures ∙ ap (wholeIn (o .«open» .result .header)) (omega arith))
 
 refused-requires : tie.Need-refused-requires
 refused-requires c κs = search needs

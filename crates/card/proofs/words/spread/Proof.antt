@@ -18,16 +18,16 @@ use Rattle.card.proofs.words.spread.Statement.{statement}
 use Rattle.card.proofs.words.spread.Tie as tie
 
 abbrev Inv-loop : tie.InvT-loop
-Inv-loop words shape coefficients₀ layers start₀ k₀ coefficients start k = (k ≤ layers) × (start ≡ blockStart shape k) × SpreadTo shape words k coefficients
+Inv-loop words shape coefficients₀ table layers start₀ k₀ coefficients start k = (k ≤ layers) × (start ≡ blockStart shape k) × SpreadTo shape words k coefficients
 
 abbrev μ-loop : tie.MeasureT-loop
-μ-loop words shape coefficients₀ layers start₀ k₀ coefficients start k = layers - k
+μ-loop words shape coefficients₀ table layers start₀ k₀ coefficients start k = layers - k
 
 abbrev L : Type 0
 L = tie.At-loop Inv-loop μ-loop
 
 abbrev S : L → tie.Start Inv-loop μ-loop
-S l = l .before .before .before
+S l = l .before .before .before .before
 
 abbrev Sh : L → Shape
 Sh l = S l .args .shape
@@ -47,19 +47,22 @@ count l = l .before .layer-count .ensures ∙ count-is (Sh l) (yes l)
 below : (i : tie.In-loop Inv-loop μ-loop) → i .before .loop .k < layers (Sh (i .before))
 below i = omega (arith, i .loop-test .taken, count (i .before))
 
+group-values-requires : tie.Need-group-values-requires Inv-loop μ-loop
+group-values-requires c κs = search needs
+
 layer-count-requires : tie.Need-layer-count-requires Inv-loop μ-loop
 layer-count-requires c κs = search needs
 
 loop-holds : tie.Need-loop-holds Inv-loop μ-loop
 loop-holds c =
-    let s = c .before .before in
+    let s = c .before .before .before in
     (omega arith, omega (arith, block-none (s .args .shape)), spread-none (s .args .shape) (now (s .args .words)) (now (s .args .coefficients)) (s .pre .1 .0 .0))
 
 spread-layer-requires : tie.Need-spread-layer-requires Inv-loop μ-loop
 spread-layer-requires c κs =
-    let l = c .before .before in
-    let h = below (c .before) in
-    ((yes l, h), ((l .loop .inv .2 .long, omega (arith, layer-room (Sh l) (yes l) (l .loop .k) h, l .loop .inv .1, S l .pre .1 .0 .1)), S l .pre .1 .1))
+    let l = c .before .before .before in
+    let h = below (c .before .before) in
+    (l .before .before .group-values .ensures, ((yes l, h), ((l .loop .inv .2 .long, omega (arith, layer-room (Sh l) (yes l) (l .loop .k) h, l .loop .inv .1, S l .pre .1 .0 .1)), S l .pre .1 .1)))
 
 plane-cells-requires : tie.Need-plane-cells-requires Inv-loop μ-loop
 plane-cells-requires c κs = search needs
@@ -69,7 +72,7 @@ abbrev C : Type 0
 C = tie.After-plane-cells Inv-loop μ-loop
 
 abbrev In : C → tie.In-loop Inv-loop μ-loop
-In c = c .before .before .before .before
+In c = c .before .before .before .before .before
 
 abbrev Lp : C → L
 Lp c = In c .before
@@ -115,6 +118,7 @@ spread-spec =
     (tie.spec
     Inv-loop
     μ-loop
+    group-values-requires
     layer-count-requires
     loop-holds
     spread-layer-requires

@@ -19,12 +19,12 @@ use Rattle.card.proofs.words.spread_layer.Statement.{statement}
 use Rattle.card.proofs.words.spread_layer.Tie as tie
 
 abbrev Inv-loop : tie.InvT-loop
-Inv-loop words start layer coefficients₀ l r₀ r-end coefficients r =
+Inv-loop table words start layer coefficients₀ l r₀ r-end coefficients r =
     (r ≤ r-end)
     × ((sh : Shape) → Lined sh layer l → Scattered (pointOf sh layer) (r * l .points) (λ i. value (bitsOf 32 (getD words (start + i) 0))) coefficients₀ coefficients)
 
 abbrev μ-loop : tie.MeasureT-loop
-μ-loop words start layer coefficients₀ l r₀ r-end coefficients r = r-end - r
+μ-loop table words start layer coefficients₀ l r₀ r-end coefficients r = r-end - r
 
 abbrev L : Type 0
 L = tie.At-loop Inv-loop μ-loop
@@ -46,22 +46,22 @@ abbrev F : L → ℕ → ℤ
 F l i = value (bitsOf 32 (getD (now (S l .args .words)) (S l .args .start + i) 0))
 
 lines : (l : L) → Lined (Sh l) (S l .args .layer) (N l)
-lines l = lined (Sh l) (S l .args .layer) (N l) (S l .pre .0 .0) (S l .pre .0 .1) (l .before .layer-lines .ensures)
+lines l = lined (Sh l) (S l .args .layer) (N l) (S l .pre .1 .0 .0) (S l .pre .1 .0 .1) (l .before .layer-lines .ensures)
 
 -- where a line starts
 near : (i : In) → (let l = i .before in N l .first + l .loop .r * N l .apart < points (Sh l) + 2 * 2 ^ levelsMost)
 near i = lines (i .before) .near (i .before .loop .r) (i .loop-test .taken)
 
 small : (l : L) → points (Sh l) ≤ pointsMost
-small l = accepted-yes (Sh l) (S l .pre .0 .0) .small
+small l = accepted-yes (Sh l) (S l .pre .1 .0 .0) .small
 
 room : (i : In) → (let l = i .before in S l .args .start + (l .loop .r * N l .points + N l .points) ≤ length (now (S l .args .words)))
 room i =
     let l = i .before in
-    omega (arith, line-room (lines l) (l .loop .r) (i .loop-test .taken), S l .pre .1 .0 .1)
+    omega (arith, line-room (lines l) (l .loop .r) (i .loop-test .taken), S l .pre .1 .1 .0 .1)
 
 same : (l : L) → length (l .loop .coefficients) ≡ points (Sh l)
-same l = l .loop .inv .1 (Sh l) (lines l) .same ∙ S l .pre .1 .0 .0
+same l = l .loop .inv .1 (Sh l) (lines l) .same ∙ S l .pre .1 .1 .0 .0
 
 layer-lines-requires : tie.Need-layer-lines-requires Inv-loop μ-loop
 layer-lines-requires c κs = search needs
@@ -88,7 +88,7 @@ spread-line-requires : tie.Need-spread-line-requires Inv-loop μ-loop
 spread-line-requires c κs =
     let i = c .before .before .before .before in
     let l = i .before in
-    ((omega (arith, room i), S l .pre .1 .1), (lines l .some, λ j h. rw (same l) (line-on (lines l) (l .loop .r) (i .loop-test .taken) j h)))
+    ((S l .pre .0, omega (arith, room i), S l .pre .1 .1 .1), (lines l .some, λ j h. rw (same l) (line-on (lines l) (l .loop .r) (i .loop-test .taken) j h)))
 
 -- a turn
 abbrev C : Type 0
@@ -127,7 +127,7 @@ returns c =
     let k = S l .args .layer in
     let end : l .loop .r ≡ N l .lines = omega (arith, c .loop-test .left, l .loop .inv .0) in
     let e : l .loop .r * N l .points ≡ layerSize sh k = ap (λ (x : ℕ). x * N l .points) end ∙ lines l .size in
-    scattered-all sh k (F l) (λ p. F l (placeIn sh k p)) e (S l .pre .1 .0 .0) (λ p h y. refl) (l .loop .inv .1 sh (lines l))
+    scattered-all sh k (F l) (λ p. F l (placeIn sh k p)) e (S l .pre .1 .1 .0 .0) (λ p h y. refl) (l .loop .inv .1 sh (lines l))
 
 pub spread-layer-spec : {M : Type 1} → statement M
 spread-layer-spec =

@@ -1,5 +1,5 @@
 -- The loop's invariant (`Scattered`): the places of the line that were passed have the numbers of their words. A turn puts one more, and no place of a line comes twice.
-use mathlib.Core.Path.{_≡_, _∙_}
+use mathlib.Core.Path.{_≡_, ap, _∙_}
 use Prim.Native.Nat.{ℕ, _+_, _-_, _*_, _<_, _≤_}
 use native.Mathlib.Omega.{arith}
 use lib.IntN.{ℤ}
@@ -9,8 +9,9 @@ use denote.Ref.{now}
 use borrow.Author.Needs.{needs}
 use Rattle.integers.proofs.Diff.{#, via}
 use Rattle.integers.proofs.Machine.{sfits-by}
-use Rattle.digits.specs.Digits.{value, bitsOf}
+use Rattle.digits.specs.Digits.{value, bitsOf, byGroups}
 use Rattle.digits.proofs.Words.{bits-within}
+use Rattle.digits.proofs.Groups.{by-groups}
 use Rattle.layers.proofs.Results.{result-is}
 use Rattle.card.specs.Words.{Scattered}
 use Rattle.card.proofs.Scatters.{scattered-none, scattered-more, line-new}
@@ -18,11 +19,11 @@ use Rattle.card.proofs.words.spread_line.Statement.{statement}
 use Rattle.card.proofs.words.spread_line.Tie as tie
 
 abbrev Inv-loop : tie.InvT-loop
-Inv-loop words start n coefficients₀ first stride j₀ coefficients j =
+Inv-loop table words start n coefficients₀ first stride j₀ coefficients j =
     (j ≤ n) × Scattered (λ i. first + i * stride) j (λ i. value (bitsOf 32 (getD words (start + i) 0))) coefficients₀ coefficients
 
 abbrev μ-loop : tie.MeasureT-loop
-μ-loop words start n coefficients₀ first stride j₀ coefficients j = n - j
+μ-loop table words start n coefficients₀ first stride j₀ coefficients j = n - j
 
 abbrev L : Type 0
 L = tie.At-loop Inv-loop μ-loop
@@ -46,34 +47,42 @@ spot i = S (i .before) .pre .1 .1 (i .before .loop .j) (i .loop-test .taken)
 loop-holds : tie.Need-loop-holds Inv-loop μ-loop
 loop-holds c = (omega arith, scattered-none _ _)
 
-add-even-places : tie.Need-add-even-places Inv-loop μ-loop
-add-even-places c = omega (arith, S (c .before) .pre .0 .0, S (c .before) .good, c .loop-test .taken)
+add-by-groups : tie.Need-add-by-groups Inv-loop μ-loop
+add-by-groups c = omega (arith, S (c .before) .pre .0 .1, S (c .before) .good, c .loop-test .taken)
 
-mul-even-places : tie.Need-mul-even-places Inv-loop μ-loop
-mul-even-places c = omega (arith, S (c .before) .pre .0 .0, S (c .before) .good, c .loop-test .taken)
+mul-by-groups : tie.Need-mul-by-groups Inv-loop μ-loop
+mul-by-groups c = omega (arith, S (c .before) .pre .0 .1, S (c .before) .good, c .loop-test .taken)
 
-shared-slice-read-even-places : tie.Need-shared-slice-read-even-places Inv-loop μ-loop
-shared-slice-read-even-places c = let i = c .before in omega (arith, S (i .before) .pre .0 .0, i .loop-test .taken)
+shared-slice-read-by-groups : tie.Need-shared-slice-read-by-groups Inv-loop μ-loop
+shared-slice-read-by-groups c = let i = c .before in omega (arith, S (i .before) .pre .0 .1, i .loop-test .taken)
 
-even-places-requires : tie.Need-even-places-requires Inv-loop μ-loop
-even-places-requires c κs = search needs
+by-groups-requires : tie.Need-by-groups-requires Inv-loop μ-loop
+by-groups-requires c κs = search needs
 
--- the number of a word fits an i32
+-- the number of a word, by its groups
+number : (c : tie.After-by-groups Inv-loop μ-loop) → (let l = c .before .before .before in c .by-groups .result ≡ F l (l .loop .j))
+number c =
+    let l = c .before .before .before in
+    let at = S l .args .start + l .loop .j in
+    let w = getD (now (S l .args .words)) at 0 in
+    c .by-groups .ensures ∙ ap (λ table. byGroups table w) (S l .pre .0 .0) ∙ by-groups w (omega (arith, S l .pre .0 .2 at))
+
+-- fits an i32
 cast-coefficients : tie.Need-cast-coefficients Inv-loop μ-loop
 cast-coefficients c =
     let l = c .before .before .before in
     let at = S l .args .start + l .loop .j in
     let w = getD (now (S l .args .words)) at 0 in
-    sfits-by (via (result-is (c .even-places .ok) (c .even-places .ensures)) (# (value (bitsOf 32 w)))) (omega (arith, bits-within 32 w, S l .pre .0 .1 at))
+    sfits-by (via (result-is (c .by-groups .ok) (number c)) (# (F l (l .loop .j)))) (omega (arith, bits-within 32 w, S l .pre .0 .2 at))
 
-mul-t15 : tie.Need-mul-t15 Inv-loop μ-loop
-mul-t15 c = let i = c .before .before in omega (arith, spot i, S (i .before) .good)
+mul-t16 : tie.Need-mul-t16 Inv-loop μ-loop
+mul-t16 c = let i = c .before .before in omega (arith, spot i, S (i .before) .good)
 
-add-t16 : tie.Need-add-t16 Inv-loop μ-loop
-add-t16 c = let i = c .before .before in omega (arith, spot i, S (i .before) .good)
+add-t17 : tie.Need-add-t17 Inv-loop μ-loop
+add-t17 c = let i = c .before .before in omega (arith, spot i, S (i .before) .good)
 
-mul-t17 : tie.Need-mul-t17 Inv-loop μ-loop
-mul-t17 c = let i = c .before .before in omega (arith, spot i, S (i .before) .good)
+mul-t18 : tie.Need-mul-t18 Inv-loop μ-loop
+mul-t18 c = let i = c .before .before in omega (arith, spot i, S (i .before) .good)
 
 slice-set-from-coefficients : tie.Need-slice-set-from-coefficients Inv-loop μ-loop
 slice-set-from-coefficients c = let i = c .before .before in omega (arith, spot i, i .before .loop .inv .1 .same)
@@ -90,7 +99,7 @@ loop-again c =
     let l = i .before in (
       omega (arith, i .loop-test .taken),
       scattered-more (P l) (F l) _ (λ k h. line-new (S l .args .first) (S l .args .stride) (S l .pre .1 .0) k (l .loop .j) h) (spot i)
-          (toZ-ofZ (cast-coefficients c) ∙ result-is (c .even-places .ok) (c .even-places .ensures)) (l .loop .inv .1),
+          (toZ-ofZ (cast-coefficients c) ∙ result-is (c .by-groups .ok) (number c)) (l .loop .inv .1),
     )
 
 same-length : tie.Need-same-length Inv-loop μ-loop
@@ -109,14 +118,14 @@ spread-line-spec =
     Inv-loop
     μ-loop
     loop-holds
-    add-even-places
-    mul-even-places
-    shared-slice-read-even-places
-    even-places-requires
+    add-by-groups
+    mul-by-groups
+    shared-slice-read-by-groups
+    by-groups-requires
     cast-coefficients
-    mul-t15
-    add-t16
-    mul-t17
+    mul-t16
+    add-t17
+    mul-t18
     slice-set-from-coefficients
     add-j
     loop-less
