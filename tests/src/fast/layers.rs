@@ -62,6 +62,21 @@ impl Grid {
                 .map(move |col| row * cols + col)
         })
     }
+
+    /// The same by plain loops, which are the faster of the two where values are put at the places, and the slower where they are taken from there.
+    #[inline(always)]
+    pub fn each_place(self, rows: usize, cols: usize, mut take: impl FnMut(usize)) {
+        let mut row = self.row;
+        while row < rows {
+            let end = row * cols + cols;
+            let mut at = row * cols + self.col;
+            while at < end {
+                take(at);
+                at += self.right;
+            }
+            row += self.down;
+        }
+    }
 }
 
 /// What is predicted at place t of a line of n points, `stride` apart; `at` is its index.

@@ -79,6 +79,11 @@ pub fn is_fine(plane: &[u8], size: usize, top: bool) -> bool {
     spare && (!top || plane.iter().any(|&byte| byte != 0))
 }
 
+/// The four bits of each half byte, at place p.
+fn halves(p: u64) -> [[u32; 4]; 16] {
+    std::array::from_fn(|half| std::array::from_fn(|j| (half as u32 >> j & 1) << p))
+}
+
 /// Adds the planes of the plan to the words; the layer of the first that is not fine.
 pub fn load(
     header: &Header,
@@ -93,6 +98,7 @@ pub fn load(
     }
     let mut at = 0;
     for p in (0..PLACES).rev() {
+        let halves = halves(p);
         let mut start = 0;
         for layer in 0..header.layers() {
             let bytes = widths[layer] * CELL;
@@ -103,9 +109,14 @@ pub fn load(
                     if !is_fine(plane, sizes[layer], p + 1 == planes) {
                         return Err(layer as u64);
                     }
-                    for (byte, eight) in plane.iter().zip(words[start..].chunks_exact_mut(8)) {
-                        for (j, word) in eight.iter_mut().enumerate() {
-                            *word |= u32::from(byte >> j & 1) << p;
+                    let own = &plane[..sizes[layer].div_ceil(8)];
+                    for (byte, eight) in own.iter().zip(words[start..].chunks_exact_mut(8)) {
+                        let (low, high) = eight.split_at_mut(4);
+                        for (word, bit) in low.iter_mut().zip(halves[usize::from(byte % 16)]) {
+                            *word |= bit;
+                        }
+                        for (word, bit) in high.iter_mut().zip(halves[usize::from(byte / 16)]) {
+                            *word |= bit;
                         }
                     }
                 }
@@ -127,13 +138,11 @@ fn number(word: u32) -> i32 {
 pub fn spread(header: &Header, words: &[u32; WORDS], coefficients: &mut [i32]) {
     let mut start = 0;
     for layer in 0..header.layers() {
-        let grid = Grid::of(header.levels, layer);
-        for (&word, at) in words[start..]
-            .iter()
-            .zip(grid.places(header.rows, header.cols))
-        {
-            coefficients[at] = number(word);
-        }
+        let mut i = start;
+        Grid::of(header.levels, layer).each_place(header.rows, header.cols, |at| {
+            coefficients[at] = number(words[i]);
+            i += 1;
+        });
         start += header.width(layer) * 8 * CELL;
     }
 }
