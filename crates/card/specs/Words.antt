@@ -165,10 +165,11 @@ pub record Partly (h : Header) (long : ℕ) (bs : List ℕ) (plan : ℕ → ℕ)
   pub word : (k i : ℕ) → k < layers (h .shape) → i < cellPoints * planeCells (h .shape) k
       → getD ws (blockStart (h .shape) k + i) 0 ≡ total (share h long bs plan t k i) placesMost
 
--- what the planes at place p leave: the cells up to their end and the words after them, or the first layer whose plane is bad
+-- no plane at place p of a layer before k is bad
 abbrev pub FineBefore : Header → ℕ → List ℕ → (ℕ → ℕ) → ℕ → ℕ → Type 0
 FineBefore h long bs plan p k = (j : ℕ) → j < k → badSlot h long bs plan (slotNo h j p) ≡ false
 
+-- what the planes at place p leave: the cells up to their end and the words after them, or the first layer whose plane is bad
 abbrev pub PlaceRead : Header → ℕ → List ℕ → (ℕ → ℕ) → ℕ → Placed → List ℕ → Type 0
 PlaceRead h long bs plan p (Placed.Fine c) ws =
     (c ≡ cellsBefore h (layers (h .shape)) p) × FineBefore h long bs plan p (layers (h .shape)) × Partly h long bs plan (slotNo h (layers (h .shape)) p) ws

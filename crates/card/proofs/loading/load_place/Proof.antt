@@ -1,5 +1,5 @@
 -- The loop's invariant, at layer k: the cells and the words before its plane, no layer so far has a bad one, and the words are those after its slot's turn has come.
-use mathlib.Core.Path.{_≡_, refl, sym, ap, ap₂, _∙_}
+use mathlib.Core.Path.{_≡_, sym, ap, ap₂, _∙_}
 use mathlib.Core.Bool.{true, false, not, cond}
 use mathlib.Core.List.{List}
 use Prim.Native.Nat.{ℕ, _+_, _-_, _*_, _<_, _≤_}
@@ -121,13 +121,13 @@ module _ (q : tie.After-load-slot Inv-loop μ-loop) where
   answer : q .load-slot .result ≡ not (badSlot (H here) (here .args .at) (now (here .args .bytes)) (plan here) (slotNo (H here) (I q .before .loop .k) (here .args .p)))
   answer =
       q .load-slot .ensures .0
-      ∙ fine-same (now (here .args .bytes)) (from-is (I q)) (size-is (I q)) (span-is (I q)) refl refl refl
+      ∙ fine-same (now (here .args .bytes)) (from-is (I q)) (size-is (I q)) (span-is (I q)) _ _ _
       ∙ fine-slot (H here) (here .args .at) (now (here .args .bytes)) (plan here) (I q .before .loop .k) (here .args .p) (below (I q)) (here .pre .0 .2)
 
   left-are : left q ≡ slotWords (now (here .args .bytes)) (place (I q .before)) (layerSize (sh here) (I q .before .loop .k)) (planeCells (sh here) (I q .before .loop .k)) (planesOf (H here) (I q .before .loop .k)) (plan here (I q .before .loop .k)) (here .args .p) (I q .before .loop .words) (blockStart (sh here) (I q .before .loop .k))
   left-are =
       q .load-slot .ensures .1
-      ∙ words-same (now (here .args .bytes)) (from-is (I q)) (size-is (I q)) (span-is (I q)) refl refl refl (I q .before .loop .words) (I q .before .loop .inv .2)
+      ∙ words-same (now (here .args .bytes)) (from-is (I q)) (size-is (I q)) (span-is (I q)) _ _ _ (I q .before .loop .words) (I q .before .loop .inv .2)
 
 -- ---- the needs
 layer-count-requires : tie.Need-layer-count-requires Inv-loop μ-loop
