@@ -68,31 +68,6 @@ fn digits_add_up_to_their_number() {
     }
 }
 
-/// "the entries of its three groups, times 1, 256 and 65,536 from the lowest, added" (document 02, card 2): the same number
-/// as the digits of the model's coefficient give one by one.
-#[test]
-fn three_groups_of_eight_digits_add_up_too() {
-    let group = |digits: &[u8]| -> i64 {
-        let weights = (0..8).map(weight);
-        digits
-            .iter()
-            .zip(weights)
-            .map(|(&d, w)| i64::from(d) * w)
-            .sum()
-    };
-    let mut random = Random::new(23);
-    for q in [-2_796_202, -1, 0, 1, 255, 256, 65_536, 5_592_405]
-        .into_iter()
-        .chain((0..20_000).map(|_| random.between(-2_796_202, 5_592_405)))
-    {
-        let mut digits = digits_of(q);
-        assert!(digits.len() <= 23);
-        digits.resize(24, 0);
-        let [low, middle, high] = [0, 8, 16].map(|at| group(&digits[at..at + 8]));
-        assert_eq!(low + 256 * middle + 65_536 * high, q);
-    }
-}
-
 #[test]
 fn loss_is_the_most_that_digits_can_be() {
     for d in 0..=16_u32 {

@@ -9,7 +9,7 @@ use lib.ListN.{length, getD, List·getD-eq-default}
 use Rattle.layers.specs.Lists.{tabulate}
 use Rattle.layers.proofs.Lists.{length-tabulate, getD-tabulate, tabulate-same}
 use Rattle.header.specs.Header.{placesMost}
-use Rattle.card.specs.Words.{bitAt, halfAt, halfBits, halves, halved, added, wordsWith}
+use Rattle.card.specs.Words.{bitAt, halfAt, halfBits, halfBit, halves, halved, added, wordsWith}
 use Rattle.card.proofs.PlaneSums.{at-most, with-same}
 
 -- ---- the halves of bytes
@@ -48,9 +48,6 @@ unfolding added
 added-half table bs from h i l = let d : (4 * h + i) / 4 ≡ h = omega arith in let m : (4 * h + i) % 4 ≡ i = omega arith in rw (d, m)
 
 -- ---- the table
-abbrev pub halfBit : ℕ → ℕ → ℕ
-halfBit p i = i / 4 / 2 ^ (i % 4) % 2 * 2 ^ p
-
 -- for the place below
 pub halves-down : (p : ℕ) → halved (halves (suc p)) ≡ halves p
 unfolding halved halves

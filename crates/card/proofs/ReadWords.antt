@@ -26,8 +26,8 @@ use Rattle.header.specs.Opening.{right}
 use Rattle.header.proofs.Rightness.{Right, right-yes}
 use Rattle.header.proofs.Totals.{total-same}
 use Rattle.card.specs.Planes.{ownLayer}
-use Rattle.card.specs.Reading.{bitOf, loaded, coefRead, coefsRead}
-use Rattle.card.specs.Words.{blockStart, spreadAll, wordRead, Read}
+use Rattle.card.specs.Reading.{bitOf, loaded, coefRead, wordRead, coefsRead}
+use Rattle.card.specs.Words.{blockStart, spreadAll, Read}
 use Rattle.card.proofs.LayerPlanes.{few-planes}
 use Rattle.card.proofs.PlaneSums.{at-most}
 use Rattle.card.proofs.WordSums.{sum-small}

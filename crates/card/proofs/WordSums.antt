@@ -18,8 +18,8 @@ use Rattle.header.specs.Header.{placesMost, cellBytes, cellPoints, planesOf, pl
 use Rattle.header.specs.CardOrder.{cellsBefore}
 use Rattle.header.proofs.Totals.{total-same, total-none, total-bump}
 use Rattle.header.proofs.Total.{plane-room}
-use Rattle.card.specs.Reading.{bitOf, clean, hasOne, fine, loaded, badSlot, firstBad}
-use Rattle.card.specs.Words.{blockStart, wordsMost, bitAt, asked, fineAt, slotFine, slotWords, wordsWith, wordRead, Read, loadedAs, slotNo, share, Partly}
+use Rattle.card.specs.Reading.{bitOf, clean, hasOne, fine, loaded, badSlot, firstBad, wordRead}
+use Rattle.card.specs.Words.{blockStart, wordsMost, bitAt, asked, fineAt, slotFine, slotWords, wordsWith, Read, loadedAs, slotNo, share, Partly}
 use Rattle.card.specs.declared.Loaded.the-variants.{Fine, Bad}
 use Rattle.card.proofs.ZeroBits.{bit-most}
 use Rattle.layers.proofs.Lists.{getD-zeros}

@@ -7,7 +7,7 @@ use lib.IntN.{ℤ}
 use lib.ListN.{length, getD}
 use Rattle.digits.specs.Digits.{value, firstFrom}
 use Rattle.layers.specs.Limits.{layersMost}
-use Rattle.layers.specs.Lists.{tabulate}
+use Rattle.layers.specs.Lists.{tabulate, total}
 use Rattle.layers.specs.Sheet.{points, layers, layerSize, placeIn}
 use Rattle.layers.specs.Layering.{layering, rebuilt}
 use Rattle.header.specs.declared.Header.{Header}
@@ -63,6 +63,10 @@ module _ (h : Header) (long : ℕ) (bs : List ℕ) where
     -- "Missing digits count as 0": the coefficient of the point that stands at place i of layer k
     unfoldable pub coefRead : ℕ → ℕ → ℤ
     coefRead k i = value (tabulate (planesOf h k) (λ p. cond (loaded k p) (bitOf k p i) 0))
+
+    -- the word of those digits: each at its place
+    unfoldable pub wordRead : ℕ → ℕ → ℕ
+    wordRead k i = total (λ p. cond (loaded k p) (bitOf k p i * 2 ^ p) 0) placesMost
 
     unfoldable pub coefsRead : List ℤ
     coefsRead =

@@ -15,7 +15,7 @@ use Rattle.layers.specs.Sheet.{points, layers, layerSize, pointOf, placeIn, inL
 use Rattle.header.specs.declared.Header.{Header}
 use Rattle.header.specs.Header.{placesMost, cellBytes, cellPoints, placeCellsMost, planeCells}
 use Rattle.card.specs.Planes.{packed, allBelow, ownLayer}
-use Rattle.card.specs.Reading.{bitOf, loaded, slots, slotLayer, badSlot, firstBad}
+use Rattle.card.specs.Reading.{bitOf, loaded, slots, slotLayer, badSlot, firstBad, wordRead}
 use Rattle.card.specs.declared.Placed.{Placed}
 use Rattle.card.specs.declared.Placed.the-variants as Placed
 use Rattle.card.specs.declared.Loaded.{Loaded}
@@ -98,7 +98,7 @@ spreadAll sh ws =
 unfoldable pub bitAt : List ℕ → ℕ → ℕ → ℕ
 bitAt bs from i = getD bs (from + i / 8) 0 / 2 ^ (i % 8) % 2
 
--- the words with a plane's bits added at place p, from `start` on
+-- the words with n numbers added at place p, from `start` on: a plane's bits at their place, or what a table has for them at place 0
 unfoldable pub wordsWith : List ℕ → ℕ → ℕ → ℕ → (ℕ → ℕ) → List ℕ
 wordsWith ws start n p bit =
     tabulate (length ws) (λ j. getD ws j 0 + cond (leb start j && ltb j (start + n)) (bit (j - start) * 2 ^ p) 0)
@@ -108,13 +108,17 @@ wordsWith ws start n p bit =
 unfoldable pub halfAt : List ℕ → ℕ → ℕ → ℕ
 halfAt bs from h = getD bs (from + h / 2) 0 / 16 ^ (h % 2) % 16
 
--- the table for place p: the four bits of each half byte, at that place
+-- the table for place p: the four bits of each of the 16 half bytes, at that place
 abbrev pub halfBits : ℕ
 halfBits = 64
 
-unfoldable pub halves : ℕ → List ℕ
-halves p = tabulate halfBits (λ i. i / 4 / 2 ^ (i % 4) % 2 * 2 ^ p)
+abbrev pub halfBit : ℕ → ℕ → ℕ
+halfBit p i = i / 4 / 2 ^ (i % 4) % 2 * 2 ^ p
 
+unfoldable pub halves : ℕ → List ℕ
+halves p = tabulate halfBits (halfBit p)
+
+-- the table for the place below (`halves-down`)
 unfoldable pub halved : List ℕ → List ℕ
 halved table = tabulate halfBits (λ i. getD table i 0 / 2)
 
@@ -167,19 +171,16 @@ pub record Partly (h : Header) (long : ℕ) (bs : List ℕ) (plan : ℕ → ℕ)
 
 -- no plane at place p of a layer before k is bad
 abbrev pub FineBefore : Header → ℕ → List ℕ → (ℕ → ℕ) → ℕ → ℕ → Type 0
-FineBefore h long bs plan p k = (j : ℕ) → j < k → badSlot h long bs plan (slotNo h j p) ≡ false
+FineBefore h long bs plan k p = (j : ℕ) → j < k → badSlot h long bs plan (slotNo h j p) ≡ false
 
 -- what the planes at place p leave: the cells up to their end and the words after them, or the first layer whose plane is bad
 abbrev pub PlaceRead : Header → ℕ → List ℕ → (ℕ → ℕ) → ℕ → Placed → List ℕ → Type 0
 PlaceRead h long bs plan p (Placed.Fine c) ws =
-    (c ≡ cellsBefore h (layers (h .shape)) p) × FineBefore h long bs plan p (layers (h .shape)) × Partly h long bs plan (slotNo h (layers (h .shape)) p) ws
+    (c ≡ cellsBefore h (layers (h .shape)) p) × FineBefore h long bs plan (layers (h .shape)) p × Partly h long bs plan (slotNo h (layers (h .shape)) p) ws
 PlaceRead h long bs plan p (Placed.Bad k) ws =
-    (k < layers (h .shape)) × (badSlot h long bs plan (slotNo h k p) ≡ true) × FineBefore h long bs plan p k
+    (k < layers (h .shape)) × (badSlot h long bs plan (slotNo h k p) ≡ true) × FineBefore h long bs plan k p
 
--- the words of a reading: of layer k's point i, the bits of the planes loaded, each at its place
-unfoldable pub wordRead : Header → ℕ → List ℕ → (ℕ → ℕ) → ℕ → ℕ → ℕ
-wordRead h long bs plan k i = total (λ p. cond (loaded h long bs plan k p) (bitOf h long bs k p i * 2 ^ p) 0) placesMost
-
+-- the words of a reading stand in ws
 pub record Read (h : Header) (long : ℕ) (bs : List ℕ) (plan : ℕ → ℕ) (ws : List ℕ) : Type 0 where
   pub long-is : length ws ≡ wordsMost
   pub small : (i : ℕ) → getD ws i 0 < 2 ^ placesMost

@@ -2,12 +2,11 @@
 ghost use mathlib.Core.Path.{_≡_};
 ghost use mathlib.Core.Bool.{true, _||_};
 ghost use lib.Dec.{ltb, eqb};
-ghost use Prim.Native.Nat.{ℕ, _+_, _*_, _-_, _/_, _%_, _^_, _<_, _≤_};
+ghost use Prim.Native.Nat.{ℕ, _+_, _*_, _-_, _^_, _<_, _≤_};
 ghost use lib.ListN.{length, getD, replicate};
 ghost use Rattle.layers.specs.Limits.{layersMost};
 ghost use Rattle.layers.specs.Lists.{tabulate};
 ghost use Rattle.layers.specs.Calls as C;
-ghost use Rattle.layers.specs.Sheet as S;
 ghost use Rattle.header.specs.Header as Hd;
 ghost use Rattle.header.specs.Plan as N;
 ghost use Rattle.header.specs.Opening as O;
@@ -161,7 +160,7 @@ fn load_place(
         ) {
             return Placed::Bad(k);
         }
-        cells += header::cells_at(span, count, p) as usize;
+        cells += header::span_at(span, count, p) as usize;
         start += CELL_POINTS * span as usize;
     }
     Placed::Fine(cells)

@@ -267,7 +267,7 @@ const VALUES: [i32; GROUPS] = [
     -85,
 ];
 
-// The table, for a caller to lend: a constant is copied wherever it is named, which costs more than a number.
+// The table, for a caller to lend to many calls: a constant is copied wherever it is named, and the copy costs more than the three look-ups.
 pub fn group_values() -> [i32; GROUPS]
     ensures { λ r. ⌜ r ≡ D.groupValues ⌝ }
 {

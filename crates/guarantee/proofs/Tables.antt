@@ -1,9 +1,10 @@
 -- Request 2: the table's law by its entries, and reading's by the word of each point, whose 23 bits are three groups.
-use mathlib.Core.Path.{sym, _∙_}
+use mathlib.Core.Path.{sym, ap, _∙_}
 use native.Mathlib.Omega.{arith}
+use lib.IntN.{negℤ}
 use Rattle.digits.proofs.Groups.{entry-is, entry-sum, by-groups}
 use Rattle.header.proofs.Rightness.{right-yes}
-use Rattle.card.specs.Words.{wordRead}
+use Rattle.card.specs.Reading.{wordRead}
 use Rattle.card.proofs.LayerPlanes.{few-planes}
 use Rattle.card.proofs.ReadWords.{number-read, word-small}
 use Rattle.guarantee.specs.Groups.{Groups}
@@ -11,7 +12,8 @@ use Rattle.guarantee.specs.Groups.{Groups}
 pub groups : Groups
 groups =
     record {
-      entries = λ g l. (entry-is g l, entry-sum g l);
+      entries = entry-is;
+      sums = λ g l. (entry-sum g l, ap negℤ (entry-sum g l));
       coefficients = λ h long bs plan r k i l.
           sym (number-read h long bs plan k i (few-planes (right-yes h r) k l))
           ∙ sym (by-groups (wordRead h long bs plan k i) (omega (arith, word-small h long bs plan k i)));

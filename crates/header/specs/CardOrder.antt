@@ -46,10 +46,12 @@ unfoldable pub wholeIn : Header → ℕ → Plan
 wholeIn h n = cond (right h) (wholePlan h n) noPlan
 
 -- ---- what the loops work with
--- the cells up to the end of layer k's plane at place p, where one plane of layer j spans `spans` j cells
+-- the cells before layer k's plane at place p, where one plane of layer j spans `spans` j cells, and those up to its end
+abbrev pub cellsPassed : List ℕ → List ℕ → ℕ → ℕ → ℕ
+cellsPassed spans planes k p = total (λ j. getD spans j 0 * passed planes k p j) layersMost
+
 unfoldable pub cellsThrough : List ℕ → List ℕ → ℕ → ℕ → ℕ
-cellsThrough spans planes k p =
-    getD spans k 0 + total (λ j. getD spans j 0 * passed planes k p j) layersMost
+cellsThrough spans planes k p = getD spans k 0 + cellsPassed spans planes k p
 
 -- does that plane end within `room` cells?
 abbrev pub within : List ℕ → List ℕ → ℕ → ℕ → ℕ → Bool
@@ -59,6 +61,6 @@ within spans planes room k p = leb (cellsThrough spans planes k p) room
 -- still to come are all that end within the room
 pub record Walked (spans planes : List ℕ) (room k p : ℕ) (found : List ℕ) (cells : ℕ) : Type 0 where
   pub long : length found ≡ layersMost
-  pub sum : cells ≡ total (λ j. getD spans j 0 * passed planes k p j) layersMost
+  pub sum : cells ≡ cellsPassed spans planes k p
   pub rest : (j : ℕ) → j < layersMost
       → getD found j 0 + count (within spans planes room j) (getD planes j 0 - passed planes k p j) ≡ count (within spans planes room j) (getD planes j 0)

@@ -152,13 +152,13 @@ pub fn cells_before(header: Header, layer: usize, p: u64) -> u64
 }
 
 // The planes found whole so far in card order, and the cells passed.
-struct Passed {
+struct Found {
     planes: [u64; MOST_LAYERS],
     cells: u64,
 }
 
 // The cells of a layer's plane at place p; 0 where it has none there.
-pub fn cells_at(span: u64, count: u64, p: u64) -> u64
+pub fn span_at(span: u64, count: u64, p: u64) -> u64
     ensures { λ r. ⌜ r ≡ cond (ltb p count) span 0 ⌝ }
 {
     if p < count {
@@ -186,8 +186,8 @@ fn whole_at(
     counts: [u64; MOST_LAYERS],
     p: u64,
     room: u64,
-    before: Passed,
-) -> Passed
+    before: Found,
+) -> Found
     requires { ⌜ ((j : ℕ) → (getD spans j 0 ≤ Hd.planeCellsMost) × (getD counts j 0 ≤ Hd.placesMost)) ⌝ }
     requires { ⌜ K.Walked spans counts room 0 p (before .planes) (before .cells) ⌝ }
     ensures { λ r. ⌜ K.Walked spans counts room layersMost p (r .planes) (r .cells) ⌝ }
@@ -195,10 +195,10 @@ fn whole_at(
     let mut planes = before.planes;
     let mut cells = before.cells;
     for k in 0..MOST_LAYERS {
-        cells += cells_at(spans[k], counts[k], p);
+        cells += span_at(spans[k], counts[k], p);
         planes[k] += whole_count(counts[k], p, cells, room);
     }
-    Passed { planes, cells }
+    Found { planes, cells }
 }
 
 // The planes that are whole in n bytes behind a header that opening can give; none behind any other.
@@ -213,12 +213,12 @@ pub fn whole_planes(header: Header, n: usize) -> Plan
     let spans = spans_of(header.shape);
     let counts = header.planes;
     let room = (n / CELL_BYTES) as u64;
-    let mut passed = Passed { planes, cells: 0 };
+    let mut found = Found { planes, cells: 0 };
     let mut p = MOST_PLACES;
     while 0 < p {
         p -= 1;
-        passed = whole_at(spans, counts, p, room, passed);
+        found = whole_at(spans, counts, p, room, found);
     }
-    let whole = passed.planes;
+    let whole = found.planes;
     Plan { planes: whole }
 }

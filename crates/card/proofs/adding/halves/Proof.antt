@@ -3,9 +3,8 @@ use mathlib.Core.Path.{_≡_, refl}
 use Prim.Native.Nat.{_-_, _/_, _%_, _^_, _≤_}
 use native.Mathlib.Omega.{arith}
 use Rattle.header.proofs.Fills.{Filled, filled-none, filled-more, filled-all}
-use Rattle.card.specs.Words.{halfBits, halves}
+use Rattle.card.specs.Words.{halfBits, halfBit, halves}
 use Rattle.card.proofs.PlaneSums.{at-most}
-use Rattle.card.proofs.HalfBytes.{halfBit}
 use Rattle.card.proofs.adding.halves.Statement.{statement}
 use Rattle.card.proofs.adding.halves.Tie as tie
 

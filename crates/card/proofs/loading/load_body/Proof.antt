@@ -62,7 +62,7 @@ slot-behind i k =
     ap (λ (t : ℕ). t * K (S l) + k) e
 
 -- and up to one of them no slot is bad, where no layer before it has a bad plane
-fine-up-to : (i : tie.In-loop Inv-loop μ-loop) (k : ℕ) → (let l = i .before in let s = S l in FineBefore (H s) (s .args .at) (now (s .args .bytes)) (plan s) (placesMost - 1 - l .loop .t) k
+fine-up-to : (i : tie.In-loop Inv-loop μ-loop) (k : ℕ) → (let l = i .before in let s = S l in FineBefore (H s) (s .args .at) (now (s .args .bytes)) (plan s) k (placesMost - 1 - l .loop .t)
     → (u : ℕ) → u < l .loop .t * K s + k → badSlot (H s) (s .args .at) (now (s .args .bytes)) (plan s) u ≡ false)
 fine-up-to i k f u m =
     let l = i .before in

@@ -34,7 +34,7 @@ use Rattle.card.proofs.loading.load_place.Tie as tie
 
 abbrev Inv-loop : tie.InvT-loop
 Inv-loop bytes at p table before words₀ header plan sizes spans layers cells₀ start₀ k₀ words cells start k =
-    (k ≤ layers) × (cells ≡ cellsBefore header k p) × (start ≡ blockStart (header .shape) k) × FineBefore header at bytes (loads plan) p k × Partly header at bytes (loads plan) (slotNo header k p) words
+    (k ≤ layers) × (cells ≡ cellsBefore header k p) × (start ≡ blockStart (header .shape) k) × FineBefore header at bytes (loads plan) k p × Partly header at bytes (loads plan) (slotNo header k p) words
 
 abbrev μ-loop : tie.MeasureT-loop
 μ-loop bytes at p table before words₀ header plan sizes spans layers cells₀ start₀ k₀ words cells start k = layers - k
@@ -204,19 +204,19 @@ returns c =
     let q = c .before .before .before in
     (below (I q), not-false _ (sym (answer q) ∙ not-true (q .load-slot .result) (c .if1 .taken)), I q .before .loop .inv .3)
 
-cells-at-requires : tie.Need-cells-at-requires Inv-loop μ-loop
-cells-at-requires c κs = tt
+span-at-requires : tie.Need-span-at-requires Inv-loop μ-loop
+span-at-requires c κs = tt
 
-abbrev Q : tie.After-cells-at Inv-loop μ-loop → tie.After-load-slot Inv-loop μ-loop
+abbrev Q : tie.After-span-at Inv-loop μ-loop → tie.After-load-slot Inv-loop μ-loop
 Q c = c .before .before .before .before
 
 -- the cells up to the end of the slot's plane
-on : (c : tie.After-cells-at Inv-loop μ-loop) → (let l = I (Q c) .before in l .loop .cells + c .cells-at .result ≡ cellsBefore (H (S l)) (l .loop .k + 1) (S l .args .p))
+on : (c : tie.After-span-at Inv-loop μ-loop) → (let l = I (Q c) .before in l .loop .cells + c .span-at .result ≡ cellsBefore (H (S l)) (l .loop .k + 1) (S l .args .p))
 on c =
     let i = I (Q c) in
     let l = i .before in
     let s = S l in
-    ap₂ (λ (x y : ℕ). x + y) (l .loop .inv .1) (c .cells-at .ensures ∙ ap (λ (n : ℕ). cond (ltb (s .args .p) (planesOf (H s) (l .loop .k))) n 0) (span-is i))
+    ap₂ (λ (x y : ℕ). x + y) (l .loop .inv .1) (c .span-at .ensures ∙ ap (λ (n : ℕ). cond (ltb (s .args .p) (planesOf (H s) (l .loop .k))) n 0) (span-is i))
     ∙ sym (cells-next (H s) (l .loop .k) (s .args .p) (below i))
 
 add-cells : tie.Need-add-cells Inv-loop μ-loop
@@ -284,7 +284,7 @@ load-place-spec =
     load-slot-requires
     same-length
     returns
-    cells-at-requires
+    span-at-requires
     add-cells
     mul-start
     add-start

@@ -17,25 +17,25 @@ abbrev μ-loop : tie.MeasureT-loop
 loop-holds : tie.Need-loop-holds Inv-loop μ-loop
 loop-holds c = (omega arith, c .before .pre .1)
 
-mul-cells-at : tie.Need-mul-cells-at Inv-loop μ-loop
-mul-cells-at c = omega arith
+mul-span-at : tie.Need-mul-span-at Inv-loop μ-loop
+mul-span-at c = omega arith
 
-array-read-cells-at : tie.Need-array-read-cells-at Inv-loop μ-loop
-array-read-cells-at c = omega arith
+array-read-span-at : tie.Need-array-read-span-at Inv-loop μ-loop
+array-read-span-at c = omega arith
 
-mul-cells-at-2 : tie.Need-mul-cells-at-2 Inv-loop μ-loop
-mul-cells-at-2 c = omega arith
+mul-span-at-2 : tie.Need-mul-span-at-2 Inv-loop μ-loop
+mul-span-at-2 c = omega arith
 
-array-read-cells-at-2 : tie.Need-array-read-cells-at-2 Inv-loop μ-loop
-array-read-cells-at-2 c = omega arith
+array-read-span-at-2 : tie.Need-array-read-span-at-2 Inv-loop μ-loop
+array-read-span-at-2 c = omega arith
 
-cells-at-requires : tie.Need-cells-at-requires Inv-loop μ-loop
-cells-at-requires c κs = tt
+span-at-requires : tie.Need-span-at-requires Inv-loop μ-loop
+span-at-requires c κs = tt
 
 add-cells : tie.Need-add-cells Inv-loop μ-loop
 add-cells c =
     let l = c .before .before in
-    omega (arith, cells-on (l .loop .inv .1) (c .before .loop-test .taken) (c .cells-at .ensures) (l .before .before .pre .0))
+    omega (arith, cells-on (l .loop .inv .1) (c .before .loop-test .taken) (c .span-at .ensures) (l .before .before .pre .0))
 
 mul-whole-count : tie.Need-mul-whole-count Inv-loop μ-loop
 mul-whole-count c = omega arith
@@ -55,7 +55,7 @@ array-read-planes c = omega arith
 add-planes : tie.Need-add-planes Inv-loop μ-loop
 add-planes c =
     let l = c .before .before .before in
-    omega (arith, found-on (l .loop .inv .1) (c .before .before .loop-test .taken) (c .before .cells-at .ensures) (c .whole-count .ensures) (l .before .before .pre .0))
+    omega (arith, found-on (l .loop .inv .1) (c .before .before .loop-test .taken) (c .before .span-at .ensures) (c .whole-count .ensures) (l .before .before .pre .0))
 
 array-write-planes : tie.Need-array-write-planes Inv-loop μ-loop
 array-write-planes c = omega arith
@@ -67,7 +67,7 @@ loop-less : tie.Need-loop-less Inv-loop μ-loop
 loop-less c = omega arith
 
 loop-again : tie.Need-loop-again Inv-loop μ-loop
-loop-again c = (omega arith, walk-on (c .before .before .before .loop .inv .1) (c .before .before .loop-test .taken) (c .before .cells-at .ensures) (c .whole-count .ensures))
+loop-again c = (omega arith, walk-on (c .before .before .before .loop .inv .1) (c .before .before .loop-test .taken) (c .before .span-at .ensures) (c .whole-count .ensures))
 
 returns : tie.Need-returns Inv-loop μ-loop
 returns c =
@@ -82,11 +82,11 @@ whole-at-spec =
     Inv-loop
     μ-loop
     loop-holds
-    mul-cells-at
-    array-read-cells-at
-    mul-cells-at-2
-    array-read-cells-at-2
-    cells-at-requires
+    mul-span-at
+    array-read-span-at
+    mul-span-at-2
+    array-read-span-at-2
+    span-at-requires
     add-cells
     mul-whole-count
     array-read-whole-count

@@ -21,10 +21,10 @@ use Rattle.header.proofs.planes.whole_planes.Statement.{statement}
 use Rattle.header.proofs.planes.whole_planes.Tie as tie
 
 abbrev Inv-loop : tie.InvT-loop
-Inv-loop n spans counts room passed₀ p₀ passed p = (room ≡ n / cellBytes) × Walked spans counts room layersMost p (passed .planes) (passed .cells)
+Inv-loop n spans counts room found₀ p₀ found p = (room ≡ n / cellBytes) × Walked spans counts room layersMost p (found .planes) (found .cells)
 
 abbrev μ-loop : tie.MeasureT-loop
-μ-loop n spans counts room passed₀ p₀ passed p = p
+μ-loop n spans counts room found₀ p₀ found p = p
 
 abbrev S : tie.Else1 Inv-loop μ-loop → tie.Start Inv-loop μ-loop
 S e = e .before .before
@@ -77,8 +77,8 @@ returns-2 c =
     let s = S (w .before) in
     let h = s .args .header in
     let e : l .loop .p ≡ 0 = omega (arith, c .before .loop-test .left) in
-    let end : Walked (tabulate layersMost (cellsAt (h .shape))) (h .planes) _ layersMost 0 (l .loop .passed .planes) (l .loop .passed .cells) = rw (e, w .spans-of .ensures) at (l .loop .inv .1) in
-    let all : l .loop .passed .planes ≡ tabulate layersMost (whole h (s .args .n)) =
+    let end : Walked (tabulate layersMost (cellsAt (h .shape))) (h .planes) _ layersMost 0 (l .loop .found .planes) (l .loop .found .cells) = rw (e, w .spans-of .ensures) at (l .loop .inv .1) in
+    let all : l .loop .found .planes ≡ tabulate layersMost (whole h (s .args .n)) =
     filled-all _ _ (le-refl layersMost) (record { long = end .long; done = λ j i. walk-last end j i ∙ within-whole (s .args .n) (l .loop .inv .0) h (rightly (w .before)) j i }) in
     rw (is-so (w .before)) (ap (λ (ps : List ℕ). record { planes = ps }) all)
 

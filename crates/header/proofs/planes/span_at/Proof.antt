@@ -1,7 +1,7 @@
 -- Each arm is one of the contract's two cases.
 use borrow.Author.Tests.{lt-ltb, le-ltb}
-use Rattle.header.proofs.planes.cells_at.Statement.{statement}
-use Rattle.header.proofs.planes.cells_at.Tie as tie
+use Rattle.header.proofs.planes.span_at.Statement.{statement}
+use Rattle.header.proofs.planes.span_at.Tie as tie
 
 returns : tie.Need-returns
 returns c = rw (lt-ltb _ _ (c .if1 .taken))
@@ -9,5 +9,5 @@ returns c = rw (lt-ltb _ _ (c .if1 .taken))
 returns-2 : tie.Need-returns-2
 returns-2 c = rw (le-ltb _ _ (c .if1 .left))
 
-pub cells-at-spec : {M : Type 1} → statement M
-cells-at-spec = tie.close (tie.spec returns returns-2)
+pub span-at-spec : {M : Type 1} → statement M
+span-at-spec = tie.close (tie.spec returns returns-2)
