@@ -65,13 +65,13 @@ impl Grid {
 
     /// The same by plain loops, which are the faster of the two where values are put at the places, and the slower where they are taken from there.
     #[inline(always)]
-    pub fn each_place(self, rows: usize, cols: usize, mut take: impl FnMut(usize)) {
+    pub fn each_place(self, rows: usize, cols: usize, mut visit: impl FnMut(usize)) {
         let mut row = self.row;
         while row < rows {
             let end = row * cols + cols;
             let mut at = row * cols + self.col;
             while at < end {
-                take(at);
+                visit(at);
                 at += self.right;
             }
             row += self.down;
@@ -129,6 +129,13 @@ fn each_point(header: &Header, values: &mut [i64], mut make: impl FnMut(usize, i
 pub fn quantize(header: &Header, samples: &[i32], coefficients: &mut [i32], values: &mut [i64]) {
     let step = header.step as i64;
     let width = 2 * step + 1;
+    // Nothing is divided where the width is 1.
+    if step == 0 {
+        return each_point(header, values, |at, predicted| {
+            coefficients[at] = (i64::from(samples[at]) - predicted) as i32;
+            i64::from(samples[at])
+        });
+    }
     each_point(header, values, |at, predicted| {
         let q = (i64::from(samples[at]) - predicted + step).div_euclid(width);
         coefficients[at] = q as i32;

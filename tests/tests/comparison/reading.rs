@@ -1,6 +1,7 @@
 //! Reading and showing.
 
 use super::both::{read, show, written, Slices};
+use trace_card_tests::model::digits::weight;
 use trace_card_tests::model::{open, planes::whole_planes, Plan};
 use trace_card_tests::random::cases::{Case, CURVES, LARGE_SIZES};
 use trace_card_tests::random::plans::plan_about;
@@ -50,6 +51,38 @@ fn cuts_of_the_largest_cards() {
             }
         }
     }
+}
+
+/// Every group of eight digits, as the lowest, the middle and the highest of a coefficient, on a card made by hand: the
+/// coefficients are the sums of their digits, one by one (document 02, card 2).
+#[test]
+fn every_group_of_eight_digits() {
+    let words: Vec<u32> = (0..256)
+        .chain((0..256).map(|group| group << 8))
+        .chain((0..128).map(|group| group << 16))
+        .collect();
+    let cells = words.len().div_ceil(256);
+    let total = 23 * cells;
+    let mut card = format!(
+        "rows=1\ncols={}\nlevels=0\ncurve=linear\nstep=0\nplanes=23\ncells={total}\n",
+        words.len()
+    )
+    .into_bytes();
+    for p in (0..23).rev() {
+        let mut plane = vec![0; 32 * cells];
+        for (i, word) in words.iter().enumerate() {
+            plane[i / 8] |= ((word >> p & 1) as u8) << (i % 8);
+        }
+        card.extend(plane);
+    }
+    let mut slices = Slices::new(words.len());
+    assert_eq!(show(&card, &mut slices).unwrap().figure, 0);
+    let sums: Vec<i64> = words
+        .iter()
+        .map(|word| (0..23).filter(|p| word >> p & 1 == 1).map(weight).sum())
+        .collect();
+    assert_eq!(slices.values, sums);
+    assert!(slices.coefficients.iter().map(|&q| i64::from(q)).eq(sums));
 }
 
 /// Damaged planes are refused only where the plan reads them, the first in card order.
