@@ -10,7 +10,7 @@ use trace_card_tests::model::{Curve, Planned, Reached};
 use trace_card_tests::random::sheets::{sheet, Kind};
 use trace_card_tests::random::Random;
 
-const SIZES: [(u64, u64); 4] = [(64, 128), (1, 8192), (8192, 1), (90, 91)];
+const SIZES: [(u64, u64); 5] = [(64, 128), (1, 8192), (8192, 1), (90, 91), (500, 1)];
 const ROUNDS: usize = 7;
 
 /// The best time of one call, of many made in a row, in microseconds.

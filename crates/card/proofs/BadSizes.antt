@@ -1,4 +1,4 @@
--- A size is refused just where no sheet has it: each test of `badSizes` is one of those of `sized`, turned over.
+-- A size is refused just where no sheet has it: each test of `badSizes` is one of those of `sized` at depth 1, turned over.
 use mathlib.Core.Path.{_≡_, refl, sym, ap, _∙_}
 use mathlib.Core.Bool.{Bool, true, false, not, _&&_, _||_}
 use Prim.Native.Nat.{ℕ, _*_}
@@ -27,8 +27,10 @@ not-all true true c = refl
 not-all true false c = refl
 not-all false b c = refl
 
-pub bad-sizes : (rows cols : ℕ) → badSizes rows cols ≡ not (sized rows cols)
+pub bad-sizes : (rows cols : ℕ) → badSizes rows cols ≡ not (sized 1 rows cols)
 unfolding badSizes sized
 bad-sizes rows cols =
-    (λ i. none rows i || (none cols i || above pointsMost (rows * cols) i))
-    ∙ not-all (leb 1 rows) (leb 1 cols) (leb (rows * cols) pointsMost)
+    let one : 1 * rows * cols ≡ rows * cols = omega arith in
+    rw one
+    ((λ i. none rows i || (none cols i || above pointsMost (rows * cols) i))
+    ∙ not-all (leb 1 rows) (leb 1 cols) (leb (rows * cols) pointsMost))

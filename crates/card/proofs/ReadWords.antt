@@ -109,8 +109,8 @@ module _ (h : Header) (long : ℕ) (bs : List ℕ) (plan : ℕ → ℕ) where
       let proper = sheet-proper sh (r .shape) Linear in
       let k = ownLayer sh p in
       let i = placeIn sh k p in
-      let hk : k < layers sh = own-below proper p in
-      let hi : i < layerSize sh k = place-in sh k p hp (in-own proper p) in
+      let hk : k < layers sh = own-below proper p hp in
+      let hi : i < layerSize sh k = place-in sh k p hp (in-own proper p hp) in
       let e = w .word k i hk hi in
       getD-tabulate n _ p (pos 0) hp
       ∙ ap (λ (x : ℕ). value (bitsOf 32 x)) e

@@ -15,6 +15,7 @@ use Rattle.layers.specs.declared.Shape.{Shape}
 use Rattle.layers.specs.declared.Lines.{Lines}
 use Rattle.layers.specs.Lists.{at, tabulate}
 use Rattle.layers.specs.Sheet.{points, inLayer, layerSize, pointOf, placeIn}
+use Rattle.layers.specs.Loops.{lineStart}
 use Rattle.layers.proofs.Lists.{length-tabulate, getD-tabulate}
 use Rattle.layers.proofs.Places.{point-in, place-point, place-in, point-place}
 use Rattle.layers.proofs.LinePoints.{Lined, line-room}
@@ -69,15 +70,15 @@ module _ (sh : Shape) (k : ℕ) where
     scattered-ahead s i h h′ = s .kept (pointOf sh k i) (λ j lt e. omega (arith, point-new j i (omega arith) h′ e))
 
     -- a line more
-    pub scattered-line : {n : Lines} → Lined sh k n → {l″ : List ℤ} {f′ : ℕ → ℤ} (r : ℕ) → r < n .lines → ((j : ℕ) → j < n .points → f′ j ≡ f (r * n .points + j))
-        → Scattered (pointOf sh k) (r * n .points) f l l′ → Scattered (λ j. n .first + r * n .apart + j * n .stride) (n .points) f′ l′ l″
-        → Scattered (pointOf sh k) ((r + 1) * n .points) f l l″
-    scattered-line {n} d {l″} r hr what s t =
-        let m = r * n .points in
-        let room = line-room d r hr in
-        let e : m + n .points ≡ (r + 1) * n .points = omega arith in
+    pub scattered-line : {n : Lines} → Lined sh k n → {l″ : List ℤ} {f′ : ℕ → ℤ} (t : ℕ) → t < n .sheets * n .lines → {first : ℕ} → first ≡ lineStart n t → ((j : ℕ) → j < n .points → f′ j ≡ f (t * n .points + j))
+        → Scattered (pointOf sh k) (t * n .points) f l l′ → Scattered (λ j. first + j * n .stride) (n .points) f′ l′ l″
+        → Scattered (pointOf sh k) ((t + 1) * n .points) f l l″
+    scattered-line {n} d {l″} t ht starts what s s′ =
+        let m = t * n .points in
+        let room = line-room d t ht in
+        let e : m + n .points ≡ (t + 1) * n .points = omega arith in
         subst (λ (x : ℕ). Scattered (pointOf sh k) x f l l″) e
-        (scattered-then (pointOf sh k) f (λ i j h h′ q. omega (arith, point-new i (m + j) (omega arith) (omega arith) q)) (λ j h. d .point r j hr h) what s t)
+        (scattered-then (pointOf sh k) f (λ i j h h′ q. omega (arith, point-new i (m + j) (omega arith) (omega arith) q)) (λ j h. d .point t j ht h ∙ ap (λ (x : ℕ). x + j * n .stride) (sym starts)) what s s′)
 
     -- all of the layer
     pub scattered-all : {m : ℕ} (g : ℕ → ℤ) → m ≡ layerSize sh k → length l ≡ points sh → ((p : ℕ) → p < points sh → inLayer sh k p ≡ true → f (placeIn sh k p) ≡ g p)

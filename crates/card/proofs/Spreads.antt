@@ -57,7 +57,7 @@ module _ (sh : Shape) (ws : List ℕ) where
           done = λ j p hj hp m.
               elim (decLt j k) [
                 | yes lt ↦
-                    let other : inLayer sh k p ≡ false = not-yes (inLayer sh k p) (λ y. omega (arith, only-one proper j k p (omega arith) hk m y)) in
+                    let other : inLayer sh k p ≡ false = not-yes (inLayer sh k p) (λ y. omega (arith, only-one proper j k p (omega arith) hk hp m y)) in
                     ap (λ (l : List ℤ). at l p) e ∙ over-out k qs p (omega (arith, g .long)) other ∙ g .done j p lt hp m
                 | no ge ↦
                     let q : j ≡ k = omega arith in
@@ -73,4 +73,4 @@ module _ (sh : Shape) (ws : List ℕ) where
         ext-getD (pos 0) _ _ (g .long ∙ sym (length-tabulate _ _))
         (λ p h.
         let hp : p < points sh = omega (arith, g .long) in
-        g .done (ownLayer sh p) p (omega (arith, own-below proper p)) hp (in-own proper p) ∙ sym (getD-tabulate _ _ p (pos 0) hp))
+        g .done (ownLayer sh p) p (omega (arith, own-below proper p hp)) hp (in-own proper p hp) ∙ sym (getD-tabulate _ _ p (pos 0) hp))

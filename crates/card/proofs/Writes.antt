@@ -2,7 +2,7 @@
 use mathlib.Core.Path.{_≡_, refl, sym, ap, _∙_}
 use mathlib.Core.Bool.{Bool, true, false, _&&_}
 use mathlib.Core.List.{List, _++_}
-use Prim.Native.Nat.{ℕ, _*_, _<_, _≤_}
+use Prim.Native.Nat.{ℕ, _<_, _≤_}
 use native.Mathlib.Decide.{decLt}
 use native.Mathlib.Omega.{arith}
 use lib.Dec.{ltb, leb, eqb}
@@ -85,7 +85,7 @@ module _ (xs : List ℤ) (sh : Shape) (curve : Curve) (e : ℕ) (qs vs : List �
       bad-lengths y w a b = rw (n, good-settings, y) (told-no w R.BadLengths a b)
 
       abbrev pts : ℕ
-      pts = sh .rows * sh .cols
+      pts = points sh
 
       abbrev front : Bool
       front = eqb (length xs) pts && eqb (length qs) pts
@@ -105,18 +105,16 @@ module _ (xs : List ℤ) (sh : Shape) (curve : Curve) (e : ℕ) (qs vs : List �
       pub short-output : length out < outputLeast → goodLengths xs sh curve e qs vs out ≡ false
       short-output h = and-no-right front back (and-no-right (eqb (length vs) pts) (leb outputLeast (length out)) (lt-leb _ _ h))
 
-      pub shape-accepted : accepted sh ≡ true
+      -- a sheet by itself has then passed every test of its shape
+      pub shape-accepted : sh .depth ≡ 1 → accepted sh ≡ true
       unfolding accepted
-      shape-accepted =
+      shape-accepted flat =
           let r = sh .rows in
           let c = sh .cols in
-          and-both (sized r c) (leb (sh .levels) levelsMost) (not-false _ (sym (bad-sizes r c) ∙ n)) (le-leb (sh .levels) levelsMost l)
+          and-both (sized (sh .depth) r c) (leb (sh .levels) levelsMost) (rw flat (not-false _ (sym (bad-sizes r c) ∙ n))) (le-leb (sh .levels) levelsMost l)
 
-      is-settled : C.settled sh e ≡ true
-      is-settled = unfold C.settled in (and-both (accepted sh) (leb e stepMost) shape-accepted (le-leb e stepMost s))
-
-      -- every length is right
-      module _ (hx : length xs ≡ pts) (hq : length qs ≡ pts) (hv : length vs ≡ pts) (ho : outputLeast ≤ length out) where
+      -- the shape is accepted, and every length is right
+      module _ (ok : accepted sh ≡ true) (hx : length xs ≡ pts) (hq : length qs ≡ pts) (hv : length vs ≡ pts) (ho : outputLeast ≤ length out) where
         pub good-lengths : goodLengths xs sh curve e qs vs out ≡ true
         good-lengths =
             and-both front back
@@ -126,6 +124,9 @@ module _ (xs : List ℤ) (sh : Shape) (curve : Curve) (e : ℕ) (qs vs : List �
         writes : writing xs sh curve e qs vs out ≡ afterScan xs sh curve e qs vs out (C.scanned (sh .cols) xs)
         unfolding writing
         writes = rw (n, good-settings, good-lengths)
+
+        is-settled : C.settled sh e ≡ true
+        is-settled = unfold C.settled in (and-both (accepted sh) (leb e stepMost) ok (le-leb e stepMost s))
 
         abbrev Q : C.Quantizing
         Q = C.quantizing sh curve e xs qs vs

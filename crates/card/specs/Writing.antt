@@ -10,6 +10,7 @@ use Rattle.layers.specs.declared.Curve.{Curve}
 use Rattle.layers.specs.declared.Scan.{Scan}
 use Rattle.layers.specs.declared.Scan.the-variants.{Clear, OutAt}
 use Rattle.layers.specs.Limits.{pointsMost, levelsMost, stepMost}
+use Rattle.layers.specs.Sheet.{points}
 use Rattle.layers.specs.Layering.{layering, written, coefs}
 use Rattle.layers.specs.Calls.{scanned}
 use Rattle.header.specs.declared.Details.{Details}
@@ -24,9 +25,6 @@ outputLeast = 32768
 -- "1, R or C is 0 or their product above 8,192."
 unfoldable pub badSizes : ℕ → ℕ → Bool
 badSizes rows cols = eqb rows 0 || (eqb cols 0 || ltb pointsMost (rows * cols))
-
-abbrev pub shapeOf : ℕ → ℕ → ℕ → Shape
-shapeOf rows cols levels = record { rows = rows; cols = cols; levels = levels }
 
 -- what writing answers, the card's length, and the caller's slices afterwards. Beside a refusal the length is 0 and nothing has changed
 pub record Writing : Type 0 where
@@ -63,8 +61,7 @@ module _ (xs : List ℤ) (sh : Shape) (curve : Curve) (e : ℕ) (qs vs : List �
   -- "3, sheet, coefficients (i32) or values (i64) not R × C long, or output under 32,768 bytes."
   abbrev pub goodLengths : Bool
   goodLengths =
-      (eqb (length xs) (sh .rows * sh .cols) && eqb (length qs) (sh .rows * sh .cols))
-      && (eqb (length vs) (sh .rows * sh .cols) && leb outputLeast (length out))
+      (eqb (length xs) (points sh) && eqb (length qs) (points sh)) && (eqb (length vs) (points sh) && leb outputLeast (length out))
 
   unfoldable pub writing : Writing
   writing =

@@ -20,6 +20,7 @@ use crate::Reached;
 use crate::loading::is_fine;
 use crate::reading::first_refusal;
 use crate::reading::refused;
+use crate::words::line_start;
 use header::CELL_BYTES;
 use header::Header;
 use header::Plan;
@@ -101,15 +102,15 @@ fn add_digits(
 {
     let l = layers::layer_lines(shape, layer);
     let scale = weight_of(p);
-    for r in 0..l.lines {
+    for t in 0..l.sheets * l.lines {
         add_line(
             bytes,
             from,
-            r * l.points,
+            t * l.points,
             scale,
             l.points,
             coefficients,
-            l.first + r * l.apart,
+            line_start(l, t),
             l.stride,
         );
     }

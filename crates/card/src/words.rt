@@ -8,10 +8,12 @@ ghost use Rattle.digits.specs.Digits.{holds, value, bitsOf, groupValues};
 ghost use Rattle.layers.specs.Limits.{layersMost};
 ghost use Rattle.layers.specs.Lists.{at, tabulate};
 ghost use Rattle.layers.specs.Sheet as S;
+ghost use Rattle.layers.specs.Loops as B;
 ghost use Rattle.header.specs.Header as Hd;
 ghost use Rattle.card.specs.Words as W;
 use digits::GROUPS;
 use header::CELL_POINTS;
+use layers::Lines;
 use layers::MOST_LAYERS;
 use layers::Shape;
 
@@ -26,6 +28,20 @@ fn word_of(q: i32) -> u32
     ensures { λ r. ⌜ r ≡ W.wordOf q ⌝ }
 {
     (q + SIGNED_OFFSET) as u32
+}
+
+// Where line t of a layer starts. Lines count on through the sheets; of a single sheet (until request 10) none lies beyond the first.
+pub(crate) fn line_start(l: Lines, t: usize) -> usize
+    requires { ⌜ (t < l .sheets * l .lines) × (B.lineStart l t ≤ 2 ^ 32) ⌝ }
+    ensures { λ r. ⌜ r ≡ B.lineStart l t ⌝ }
+{
+    let first = l.first;
+    let lines = l.lines;
+    let apart = l.apart;
+    if t < lines {
+        return first + t * apart;
+    }
+    first + t / lines * l.beyond + t % lines * apart
 }
 
 // The words of the n coefficients on a line, from `start` on.
@@ -54,14 +70,14 @@ fn gather_layer(coefficients: &[i32], shape: Shape, layer: usize, words: &mut [u
     ensures { λ _. ⌜ now (words .exit) ≡ sets (now (words .entry)) start (tabulate (S.layerSize shape layer) (λ i. W.wordOf (at (now (coefficients .entry)) (S.pointOf shape layer i)))) ⌝ }
 {
     let l = layers::layer_lines(shape, layer);
-    for r in 0..l.lines {
+    for t in 0..l.sheets * l.lines {
         gather_line(
             coefficients,
-            l.first + r * l.apart,
+            line_start(l, t),
             l.stride,
             l.points,
             words,
-            start + r * l.points,
+            start + t * l.points,
         );
     }
 }
@@ -153,14 +169,14 @@ fn spread_layer(
     ensures { λ _. ⌜ now (coefficients .exit) ≡ W.spreadOver shape layer (now (words .entry)) start (now (coefficients .entry)) ⌝ }
 {
     let l = layers::layer_lines(shape, layer);
-    for r in 0..l.lines {
+    for t in 0..l.sheets * l.lines {
         spread_line(
             table,
             words,
-            start + r * l.points,
+            start + t * l.points,
             l.points,
             coefficients,
-            l.first + r * l.apart,
+            line_start(l, t),
             l.stride,
         );
     }

@@ -87,9 +87,9 @@ pub fn write(
     values: &mut [i64],
     output: &mut [u8],
 ) -> Written
-    ensures { λ r. ⌜ Wr.told r (now (coefficients .exit)) (now (values .exit)) (now (output .exit)) ≡ Wr.writing (now (samples .entry)) (Wr.shapeOf rows cols levels) curve step (now (coefficients .entry)) (now (values .entry)) (now (output .entry)) ⌝ }
+    ensures { λ r. ⌜ Wr.told r (now (coefficients .exit)) (now (values .exit)) (now (output .exit)) ≡ Wr.writing (now (samples .entry)) (S.sheetOf rows cols levels) curve step (now (coefficients .entry)) (now (values .entry)) (now (output .entry)) ⌝ }
 {
-    if !layers::sized(rows, cols) {
+    if !layers::sized(1, rows, cols) {
         return refused(Refusal::BadSize);
     }
     if MOST_LEVELS < levels || MOST_STEP < step {
@@ -102,7 +102,7 @@ pub fn write(
     if values.len() != points || output.len() < LEAST_OUTPUT {
         return refused(Refusal::BadLengths);
     }
-    let shape = Shape { rows, cols, levels };
+    let shape = layers::sheet_of(rows, cols, levels);
     match layers::quantize(samples, shape, curve, step, coefficients, values) {
         Quantized::Refused => refused(Refusal::BadLengths),
         Quantized::OutOfRange { row, col } => refused(Refusal::BadSample {

@@ -2,7 +2,7 @@
 use mathlib.Core.Bool.{true, false}
 use mathlib.Core.List.{List, _++_, append-assoc, append-nil}
 use mathlib.Core.Path.{_≡_, ap₂, sym, _∙_}
-use Prim.Native.Nat.{ℕ, _+_, _-_, _<_}
+use Prim.Native.Nat.{ℕ, _+_, _*_, _-_, _<_}
 use native.Mathlib.Nat.{zero-add}
 use native.Mathlib.Omega.{arith}
 use borrow.Author.Tests.{le-ltb, eqb-true}
@@ -42,10 +42,10 @@ module _ (s : Shown) (vs : List ℤ) where
     lines-pieces = simp (e, append-assoc, append-nil)
 
     module _ (some : 0 < s .shape .cols) (long : length vs ≡ points (s .shape)) where
-      values-pieces : inOrder (pieceAt s vs) (length vs) sheetLines ≡ rowsText (s .shape .rows) (s .shape .cols) vs
+      values-pieces : inOrder (pieceAt s vs) (length vs) sheetLines ≡ rowsText (s .shape .depth * s .shape .rows) (s .shape .cols) vs
       values-pieces =
           order-same (pieceAt s vs) (valuePiece vs (s .shape .cols)) (length vs) sheetLines 0 (λ k _. rw zero-add (piece-value k))
-          ∙ rw long (rows-pieces (s .shape .cols) some (s .shape .rows) vs long)
+          ∙ rw long (rows-pieces (s .shape .cols) some (s .shape .depth * s .shape .rows) vs long)
 
       sheet-pieces : inOrder (pieceAt s vs) (pieces (s .number) vs) 0 ≡ textOf s vs
       unfolding textOf

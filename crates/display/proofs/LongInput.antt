@@ -12,8 +12,8 @@ use lib.Seq.{drop-append-le}
 use Rattle.layers.specs.declared.Shape.{Shape}
 use Rattle.layers.specs.declared.Curve.{Curve}
 use Rattle.layers.specs.Limits.{pointsMost, levelsMost, layersMost, stepMost}
-use Rattle.layers.specs.Sheet.{accepted, layers}
-use Rattle.layers.proofs.Accepting.{accepted-by, accepted-yes}
+use Rattle.layers.specs.Sheet.{accepted, sheetOf, layers}
+use Rattle.layers.proofs.Accepting.{accepted-by, accepted-yes, layers-few}
 use Rattle.text.specs.declared.Line.{Line}
 use Rattle.text.specs.declared.Line.the-variants as L
 use Rattle.text.specs.Line.{newline, before, starts, lineAt}
@@ -23,7 +23,7 @@ use Rattle.header.specs.declared.Header.{Header}
 use Rattle.header.specs.Refusals.{refusal}
 use Rattle.header.specs.Header.{asciiFrom, ascii, cellBytes, cellsMost, cellsOf}
 use Rattle.header.specs.Opening.{Opening, no, taking, curveLine, curveOf, countsIn, counted, padded, takingPlanes, openingCells, openingPlanes, openingStep, openingCurve, openingLevels, openingCols, opening}
-use Rattle.header.proofs.HeaderLines.{sized, headed}
+use Rattle.header.proofs.HeaderLines.{headed}
 use Rattle.header.proofs.ListText.{Counted, written-counts, list-length}
 use Rattle.header.proofs.Opens.{padded-in}
 use Rattle.header.proofs.Rightness.{most-le}
@@ -130,7 +130,7 @@ module _ (bs rest : List ℕ) (enough : bufferBytes ≤ length bs) where
 
   module _ (sh : Shape) (ok : accepted sh ≡ true) where
     few : layers sh ≤ layersMost
-    few = omega (arith, accepted-yes sh ok .shallow)
+    few = layers-few sh (accepted-yes sh ok)
 
     cells-few : (l counts : List ℕ) → PlanesLine sh l counts → cellsOf sh (padded counts) ≤ cellsMost
     cells-few l counts p =
@@ -173,12 +173,12 @@ module _ (bs rest : List ℕ) (enough : bufferBytes ≤ length bs) where
   unfolding openingLevels asciiFrom
   levels-turn rows cols at tall wide small h =
       line-turn 3 (ascii "levels=") 0 levelsMost at
-      (λ levels n. openingCurve bs (sized rows cols levels) (at + n))
-      (λ levels n. openingCurve (bs ++ rest) (sized rows cols levels) (at + n))
+      (λ levels n. openingCurve bs (sheetOf rows cols levels) (at + n))
+      (λ levels n. openingCurve (bs ++ rest) (sheetOf rows cols levels) (at + n))
       (omega arith) (omega arith) (omega arith)
       (λ levels n e m.
       let w : Written (ascii "levels=") 0 levelsMost (drop at bs) levels n = written (ascii "levels=") 0 levelsMost _ _ _ e in
-      curve-turn (sized rows cols levels) (accepted-by (sized rows cols levels) (record { tall = tall; wide = wide; small = small; shallow = w .most })) (at + n) (omega arith))
+      curve-turn (sheetOf rows cols levels) (accepted-by (sheetOf rows cols levels) (record { thick = omega arith; flat = omega arith; tall = tall; wide = wide; small = omega arith; shallow = w .most })) (at + n) (omega arith))
 
   cols-turn : (rows at : ℕ) → 1 ≤ rows → at ≤ 29 → Long ends (openingCols bs rows at) (openingCols (bs ++ rest) rows at)
   unfolding openingCols asciiFrom

@@ -2,26 +2,32 @@
 use mathlib.Core.Bool.{Bool, true, false}
 use mathlib.Core.List.{List}
 use mathlib.Core.Path.{_≡_, refl}
-use Prim.Native.Nat.{ℕ, _≤_}
+use Prim.Native.Nat.{ℕ, _*_, _≤_}
 use native.Mathlib.Omega.{arith}
 use borrow.Author.Tests.{eqb-true, eqb-false}
 use lib.Dec.{eqb}
+use Rattle.layers.specs.declared.Shape.{Shape}
 use Rattle.layers.specs.Limits.{pointsMost}
 use Rattle.layers.specs.Sheet.{points}
 use Rattle.layers.proofs.Accepting.{Sheet, accepted-yes}
+use Rattle.layers.proofs.Fits.{lines-small}
 use Rattle.header.specs.Opening.{opening}
 use Rattle.header.proofs.HeaderLines.{Accepts}
 use Rattle.header.proofs.Opens.{opened-right}
 use Rattle.header.proofs.Refusing.{answers, refused-blank}
 use Rattle.header.proofs.Rightness.{right-yes}
 
+-- the rows of all sheets, and their points
+abbrev pub Small : Shape → Type 0
+Small sh = (sh .depth * sh .rows ≤ pointsMost) × (points sh ≤ pointsMost)
+
 module _ (bs : List ℕ) where
   pub opened-sheet : Accepts (opening bs) → Sheet (opening bs .header .shape)
   opened-sheet e = accepted-yes (opening bs .header .shape) (right-yes (opening bs .header) (opened-right bs e .right-is) .shape)
 
-  pub opened-small : points (opening bs .header .shape) ≤ pointsMost
+  pub opened-small : Small (opening bs .header .shape)
   opened-small = by (eqb (opening bs .refused .number) 0) refl
     where
-      by : (t : Bool) → eqb (opening bs .refused .number) 0 ≡ t → points (opening bs .header .shape) ≤ pointsMost
-      by true e = opened-sheet (eqb-true _ _ e) .small
-      by false e = rw (refused-blank (answers bs) (eqb-false _ _ e)) (omega arith)
+      by : (t : Bool) → eqb (opening bs .refused .number) 0 ≡ t → Small (opening bs .header .shape)
+      by true e = let s = opened-sheet (eqb-true _ _ e) in (lines-small s, s .small)
+      by false e = rw (refused-blank (answers bs) (eqb-false _ _ e)) (omega arith, omega arith)

@@ -41,7 +41,7 @@ unfoldable pub rowsText : ℕ → ℕ → List ℤ → List ℕ
 rowsText zero cols vs = []
 rowsText (suc rows) cols vs = (ascii "row=" ++ valuesText (take cols vs) ++ newline ∷ []) ++ rowsText rows cols (drop cols vs)
 
--- ---- the whole text
+-- ---- the whole text; rows count on through the sheets, once there are several (request 10)
 -- "A refused card prints one line, refused=number"
 unfoldable pub textOf : Shown → List ℤ → List ℕ
 textOf s vs =
@@ -50,7 +50,7 @@ textOf s vs =
     ++ lineText (ascii "cols=") (s .shape .cols)
     ++ loadedText (s .shape) (s .plan)
     ++ lineText (ascii "figure=") (s .figure)
-    ++ rowsText (s .shape .rows) (s .shape .cols) vs)
+    ++ rowsText (s .shape .depth * s .shape .rows) (s .shape .cols) vs)
     (lineText (ascii "refused=") (s .number))
 
 -- "Showing a card is reading it with all its whole planes; the values and the figure that this gives are those shown": in slices as long as the sheet

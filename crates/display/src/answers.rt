@@ -1,6 +1,6 @@
 // What is to be printed: of a card that is all there, and of an input that is longer than any card.
 ghost use mathlib.Core.Path.{_≡_};
-ghost use Prim.Native.Nat.{_≤_};
+ghost use Prim.Native.Nat.{_*_, _≤_};
 ghost use lib.IntN.{pos};
 ghost use lib.ListN.{replicate, take};
 ghost use Rattle.layers.specs.Limits.{pointsMost};
@@ -14,14 +14,15 @@ use crate::Shown;
 // What is shown of a card that is all there, with its values at the front of their slice.
 pub(crate) fn shown_of(bytes: &[u8], coefficients: &mut [i32], values: &mut [i64]) -> Shown
     requires { ⌜ (now coefficients ≡ replicate pointsMost (pos 0)) × (now values ≡ replicate pointsMost (pos 0)) ⌝ }
-    ensures { λ r. ⌜ (r ≡ S.shownOf (now (bytes .entry))) × (take (points (r .shape)) (now (values .exit)) ≡ S.valuesOf (now (bytes .entry))) × (points (r .shape) ≤ pointsMost) ⌝ }
+    ensures { λ r. ⌜ (r ≡ S.shownOf (now (bytes .entry))) × (take (points (r .shape)) (now (values .exit)) ≡ S.valuesOf (now (bytes .entry))) × (r .shape .depth * r .shape .rows ≤ pointsMost) × (points (r .shape) ≤ pointsMost) ⌝ }
 {
     let opened = header::open(bytes);
     let header = opened.header;
     let shape = header.shape;
+    let depth = shape.depth;
     let rows = shape.rows;
     let cols = shape.cols;
-    let points = rows * cols;
+    let points = depth * rows * cols;
     let reached = card::show(bytes, &mut coefficients[..points], &mut values[..points]);
     let refusal = reached.refusal;
     let details = header::details_of(refusal);

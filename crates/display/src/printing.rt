@@ -45,9 +45,10 @@ fn show_in(bytes: &[u8], coefficients: &mut [i32], values: &mut [i64])
 {
     let shown = shown_of(bytes, coefficients, values);
     let shape = shown.shape;
+    let depth = shape.depth;
     let rows = shape.rows;
     let cols = shape.cols;
-    let points = rows * cols;
+    let points = depth * rows * cols;
     print(shown, &values[..points]);
 }
 

@@ -100,7 +100,7 @@ module _ (h : Header) (long : ℕ) (bs : List ℕ) where
     unfolding coefsRead
     coef-at plan p hp m =
         getD-tabulate (points (h .shape)) _ p (pos 0) hp
-        ∙ ap (λ (j : ℕ). coefRead h long bs plan j (placeIn (h .shape) j p)) (layer-no (sheet-proper (h .shape) ok Linear) k p hk m)
+        ∙ ap (λ (j : ℕ). coefRead h long bs plan j (placeIn (h .shape) j p)) (layer-no (sheet-proper (h .shape) ok Linear) k p hk hp m)
 
     -- read with all planes, so many digits hold it
     pub full-holds : (p : ℕ) → p < points (h .shape) → inLayer (h .shape) k p ≡ true → Holds (planesOf h k) (at (coefsRead h long bs (planesOf h)) p)

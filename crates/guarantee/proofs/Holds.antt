@@ -9,6 +9,7 @@ use lib.ListN.{length, take, drop}
 use lib.Seq.{take-append-seam}
 use Rattle.layers.specs.declared.Shape.{Shape}
 use Rattle.layers.specs.declared.Curve.{Curve}
+use Rattle.layers.specs.Sheet.{sheetOf}
 use Rattle.layers.specs.Layering.{layering, coefs}
 use Rattle.layers.specs.Loops.{Samples}
 use Rattle.header.specs.declared.Header.{Header}
@@ -23,7 +24,7 @@ use Rattle.guarantee.proofs.Plans.{best-fewest, plans, plans-whole, pla
 use Rattle.guarantee.proofs.Shows.{shows, shows-gives, shows-figure}
 use Rattle.guarantee.proofs.Written.{Passes, passes-written, passes-samples, writing-passes}
 
-module _ (g : List ℤ) (sh : Shape) (curve : Curve) (e : ℕ) (qs vs : List ℤ) (out : List ℕ) (passes : Passes g sh curve e qs vs out) where
+module _ (g : List ℤ) (sh : Shape) (flat : sh .depth ≡ 1) (curve : Curve) (e : ℕ) (qs vs : List ℤ) (out : List ℕ) (passes : Passes g sh curve e qs vs out) where
   abbrev q : List ℤ
   q = coefs (layering sh curve) e g
 
@@ -34,7 +35,7 @@ module _ (g : List ℤ) (sh : Shape) (curve : Curve) (e : ℕ) (qs vs : List ℤ
   h = headerFor sh curve e q
 
   samples : Samples sh e g
-  samples = passes-samples g sh curve e qs vs out passes
+  samples = passes-samples g sh curve e qs vs out flat passes
 
   -- ---- the bytes and the coefficients that were written
   written : made g sh curve e qs vs out ≡ done g sh curve e qs vs out card
@@ -81,4 +82,9 @@ module _ (g : List ℤ) (sh : Shape) (curve : Curve) (e : ℕ) (qs vs : List ℤ
       }
 
 pub guarantee : Guarantee
-guarantee = record { demand = λ g sh curve e qs vs out zero. demand-3 g sh curve e qs vs out (writing-passes g sh curve e qs vs out zero) }
+guarantee =
+    record {
+      demand = λ g rows cols levels curve e qs vs out zero.
+          let sh = sheetOf rows cols levels in
+          demand-3 g sh refl curve e qs vs out (writing-passes g sh curve e qs vs out zero);
+    }

@@ -103,7 +103,7 @@ module _ {h : Header} (r : Right h) {long : ℕ} {bs : List ℕ} {plan : Plan} (
       (λ m. rw (m, read (loads plan) k hk m, read (loads more) k hk m) (sym (coef-next h long bs k (placeIn sh k p) (loads plan) (loads more) here named)))
       (λ m.
       let j = ownLayer sh p in
-      let own = in-own proper p in
-      let hj = own-below proper p in
+      let own = in-own proper p hp in
+      let hj = own-below proper p hp in
       let apart : j ≡ k → ⊥ = λ e. true≢false (sym own ∙ ap (λ (i : ℕ). inLayer sh i p) e ∙ m) in
       rw (m, read (loads plan) j hj own, read (loads more) j hj own) (sym (coef-same h long bs (loads plan) (loads more) j (placeIn sh j p) (elsewhere j apart)))))

@@ -5,7 +5,7 @@ use Rattle.integers.specs.Floor.{floorDiv, ceilDiv}
 use Rattle.digits.specs.Digits.{value, firstFrom, loss}
 use Rattle.digits.proofs.Examples as E
 use Rattle.layers.specs.Lists.{tabulate, count, total}
-use Rattle.layers.specs.Sheet.{spacing, inLayer, layerSize, placeIn}
+use Rattle.layers.specs.Sheet.{spacing, inLayer, layerSize, placeIn, directions}
 use Rattle.layers.specs.Prediction.{linear, line, predictedAt, width, coefficientOf, rebuiltFrom}
 use Rattle.layers.specs.Layering.{lastIn, pointBy, layerBy, valuesBy, alongside, rebuilt, written, coefs}
 use Rattle.layers.specs.Carry.{carried, standing}
@@ -26,7 +26,7 @@ unfolding
     coefs written alongside rebuilt valuesBy layerBy tabulate pointBy predictedAt line linear coefficientOf rebuiltFrom floorDiv width
     firstOver firstFrom whole isWhole cellsBefore firstBad badSlot fine clean hasOne bitOf allBelow coefsRead coefRead value lastIn placeIn
     bestByLimit bestByCells bestOf better before plansOf listsUpTo eachUpTo withUpTo
-    figureOf standing carried loss cellsOf total planeCells ceilDiv layerSize count inLayer spacing asciiFrom
+    figureOf standing carried loss cellsOf total planeCells ceilDiv layerSize count inLayer directions spacing asciiFrom
 bench =
     record {
       written = C.written;

@@ -12,7 +12,7 @@ use Rattle.integers.specs.Floor.{floorDiv, ceilDiv}
 use Rattle.digits.specs.Digits.{evens, odds, lowest, higher, digitAt, holds, firstFrom}
 use Rattle.layers.specs.declared.Curve.the-variants.{Linear}
 use Rattle.layers.specs.Lists.{tabulate, count, nth, total}
-use Rattle.layers.specs.Sheet.{layerCount, spacing, inLayer, layerSize, pointOf}
+use Rattle.layers.specs.Sheet.{layerCount, spacing, inLayer, layerSize, pointOf, directions}
 use Rattle.layers.specs.Calls.{inRange, goodPrefix, scanned}
 use Rattle.layers.proofs.Worked.{bench-coefs}
 use Rattle.text.specs.Decimal.{digitsIn, digits}
@@ -39,7 +39,7 @@ card-is : cardOf shape Linear 1 coefficients ≡ card
 unfolding
     cardOf headerText lineText digits digitsIn listText layerCount asciiFrom countsFor planesFor enough allBelow firstFrom holds evens odds
     body downFrom atPlace planeBytes planeBit packed digitAt lowest higher floorDiv pointOf nth
-    tabulate planeCells ceilDiv layerSize count inLayer spacing cellsOf total
+    tabulate planeCells ceilDiv layerSize count inLayer directions spacing cellsOf total
 card-is = refl
 
 pub written : (qs vs : List ℤ) (out : List ℕ) → Five qs vs → outputLeast ≤ length out

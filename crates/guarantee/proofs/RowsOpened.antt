@@ -3,7 +3,7 @@ use mathlib.Core.Path.{_≡_, refl}
 use lib.ListN.{take}
 use Rattle.integers.specs.Floor.{ceilDiv}
 use Rattle.layers.specs.Lists.{count, total}
-use Rattle.layers.specs.Sheet.{spacing, inLayer, layerSize}
+use Rattle.layers.specs.Sheet.{spacing, inLayer, layerSize, directions}
 use Rattle.text.specs.Decimal.{pushed, more, upTo, parsed}
 use Rattle.text.specs.Line.{before, starts, lineAt}
 use Rattle.header.specs.Refusals.{refusal}
@@ -27,5 +27,5 @@ pub record Openings : Type 0 where
 pub openings : Openings
 unfolding
     opening openingCols openingLevels openingCurve openingStep openingPlanes openingCells lineAt curveLine before starts parsed upTo more pushed countsIn planesMost
-    layerSize count inLayer spacing cellsOf total planeCells ceilDiv asciiFrom
+    layerSize count inLayer directions spacing cellsOf total planeCells ceilDiv asciiFrom
 openings = record { whole = refl; at160 = refl; at159 = refl; at64 = refl; at63 = refl }

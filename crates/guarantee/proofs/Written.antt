@@ -19,6 +19,7 @@ use Rattle.layers.specs.Layering.{layering, coefs}
 use Rattle.layers.specs.Calls.{scanned}
 use Rattle.layers.specs.Loops.{Samples}
 use Rattle.layers.proofs.Accepting.{sized-by, accepted-yes}
+use Rattle.layers.proofs.Fits.{sheet-small}
 use Rattle.layers.proofs.Answers.{clear-within, scans-clear}
 use Rattle.card.specs.Planes.{cardOf}
 use Rattle.card.specs.Writing.{outputLeast, badSizes, badSettings, goodLengths, afterScan, done, writing}
@@ -58,15 +59,15 @@ module _ (g : List ℤ) (sh : Shape) (curve : Curve) (e : ℕ) (qs vs : List ℤ
       (λ y. absurd (one-none (rw (sizes, settings, y) at zero)))))
 
   -- ---- what they say of the samples
-  pub passes-samples : Passes → Samples sh e g
-  passes-samples t =
+  pub passes-samples : sh .depth ≡ 1 → Passes → Samples sh e g
+  passes-samples flat t =
       let deep = ltb-false levelsMost (sh .levels) (or-no-left (ltb levelsMost (sh .levels)) (ltb stepMost e) (t .settings)) in
       let wide = ltb-false stepMost e (or-no-right (ltb levelsMost (sh .levels)) (ltb stepMost e) (t .settings)) in
       let full = eqb (length g) (points sh) in
       let rest = eqb (length qs) (points sh) in
       let long : length g ≡ points sh = eqb-true _ _ (and-left full rest (and-left (full && rest) (eqb (length vs) (points sh) && leb outputLeast (length out)) (t .lengths))) in
       record {
-        shape = shape-accepted g sh curve e qs vs out (t .sizes) deep wide;
+        shape = shape-accepted g sh curve e qs vs out (t .sizes) deep wide flat;
         step = wide;
         long = long;
         small = λ p l. clear-within (sh .cols) g (t .clear) p (omega arith);
@@ -77,10 +78,11 @@ module _ (g : List ℤ) (sh : Shape) (curve : Curve) (e : ℕ) (qs vs : List ℤ
   samples-pass x room =
       let s = accepted-yes sh (x .shape) in
       let sizes : badSizes (sh .rows) (sh .cols) ≡ false =
-      bad-sizes (sh .rows) (sh .cols) ∙ ap not (sized-by (sh .rows) (sh .cols) (record { tall = s .tall; wide = s .wide; small = s .small })) in
+      bad-sizes (sh .rows) (sh .cols)
+      ∙ ap not (sized-by 1 (sh .rows) (sh .cols) (record { thick = omega arith; flat = omega arith; tall = s .tall; wide = s .wide; small = omega (arith, sheet-small s) })) in
       record {
         sizes = sizes;
         settings = good-settings g sh curve e qs vs out sizes (s .shallow) (x .step);
-        lengths = good-lengths g sh curve e qs vs out sizes (s .shallow) (x .step) (x .long) (room .coefficients) (room .values) (room .output);
+        lengths = good-lengths g sh curve e qs vs out sizes (s .shallow) (x .step) (x .shape) (x .long) (room .coefficients) (room .values) (room .output);
         clear = scans-clear (sh .cols) g (λ p l. x .small p (omega (arith, x .long)));
       }

@@ -8,6 +8,7 @@ use Rattle.digits.specs.Digits.{digitsOf, fewest}
 use Rattle.layers.specs.declared.Shape.{Shape}
 use Rattle.layers.specs.declared.Curve.the-variants.{Linear, Cubic}
 use Rattle.layers.specs.Limits.{layersMost}
+use Rattle.layers.specs.Sheet.{sheetOf}
 use Rattle.layers.specs.Prediction.{cubic}
 use Rattle.layers.specs.Carry.{carried}
 use Rattle.header.specs.declared.Plan.{Plan}
@@ -22,7 +23,7 @@ use Rattle.planner.specs.Planning as N
 
 -- "1 by 5, L 1, linear, e 1, readings 10 13 11 20 30"
 abbrev pub shape : Shape
-shape = record { rows = 1; cols = 5; levels = 1 }
+shape = sheetOf 1 5 1
 
 abbrev pub samples : List ℤ
 samples = pos 10 ∷ pos 13 ∷ pos 11 ∷ pos 20 ∷ pos 30 ∷ []

@@ -10,7 +10,7 @@ use Rattle.digits.specs.Digits.{loss}
 use Rattle.layers.specs.declared.Shape.{Shape}
 use Rattle.layers.specs.declared.Curve.{Curve}
 use Rattle.layers.specs.Lists.{at}
-use Rattle.layers.specs.Sheet.{points, layers}
+use Rattle.layers.specs.Sheet.{sheetOf, points, layers}
 use Rattle.layers.specs.Prediction.{width}
 use Rattle.layers.specs.Carry.{standing}
 use Rattle.header.specs.declared.Header.{Header}
@@ -82,5 +82,5 @@ module _ (g : List ℤ) (sh : Shape) (curve : Curve) (e : ℕ) (qs vs : List ℤ
 
 -- "any sheet that the writer accepts"
 pub record Guarantee : Type 0 where
-  pub demand : (g : List ℤ) (sh : Shape) (curve : Curve) (e : ℕ) (qs vs : List ℤ) (out : List ℕ)
-      → made g sh curve e qs vs out .refused .number ≡ 0 → Demand3 g sh curve e qs vs out
+  pub demand : (g : List ℤ) (rows cols levels : ℕ) (curve : Curve) (e : ℕ) (qs vs : List ℤ) (out : List ℕ)
+      → (let sh = sheetOf rows cols levels in made g sh curve e qs vs out .refused .number ≡ 0 → Demand3 g sh curve e qs vs out)

@@ -4,7 +4,7 @@ use mathlib.Core.Bool.{true, false, true≢false, false≢true}
 use mathlib.Core.List.{List, [], _∷_, _++_, append-assoc}
 use mathlib.Core.Option.{Option, none, some}
 use mathlib.Core.Path.{_≡_, refl, sym, ap, ap₂, _∙_}
-use Prim.Native.Nat.{ℕ, suc, _+_, _*_, _-_, _<_, _≤_}
+use Prim.Native.Nat.{ℕ, suc, _+_, _-_, _<_, _≤_}
 use native.Mathlib.Numerals.{add-one}
 use native.Mathlib.Omega.{arith}
 use lib.Dec.{ltb}
@@ -78,7 +78,7 @@ count-read sh k text e l h = cc
 rest-blank : (planes : List ℕ) (k m : ℕ) → drop k planes ≡ replicate (suc m) 0 → drop (suc k) planes ≡ replicate m 0
 rest-blank planes k m h = ap (λ (n : ℕ). drop n planes) (sym (add-one k)) ∙ sym (drop-drop 1 k planes) ∙ ap (drop 1) h
 
-module _ (sh : Shape) (text : List ℕ) (last : ℕ) (is-last : last ≡ 2 * sh .levels) where
+module _ (sh : Shape) (text : List ℕ) (last : ℕ) (is-last : last + 1 ≡ layers sh) where
   pub none-yet : Sofar sh text last (replicate layersMost 0) 0 0
   none-yet =
       record {

@@ -11,6 +11,8 @@ use lib.ListN.{length, take, drop, length-take}
 use lib.Seq.{take-append-add, take-take}
 use Rattle.layers.specs.declared.Shape.{Shape}
 use Rattle.layers.specs.Limits.{pointsMost, levelsMost, layersMost, stepMost}
+use Rattle.layers.specs.Sheet.{sheetOf}
+use Rattle.layers.proofs.Flat.{flat-shape}
 use Rattle.text.specs.declared.Line.the-variants as L
 use Rattle.text.specs.Line.{newline, before, lineAt}
 use Rattle.text.proofs.Lines.{written, short-take, number-take}
@@ -137,7 +139,7 @@ module _ (bs : List ℕ) (n : ℕ) where
 
     levels-cut : at₃ ≤ n → openingLevels left (h .shape .rows) (h .shape .cols) at₃ ≡ O.no (refusal 5 0 0)
     unfolding openingLevels
-    levels-cut l = line-turn 3 (ascii "levels=") 0 levelsMost at₃ (h .shape .levels) (s .n₃) _ (s .levels-line) l curve-cut
+    levels-cut l = line-turn 3 (ascii "levels=") 0 levelsMost at₃ (h .shape .levels) (s .n₃) (λ levels k. openingCurve left (sheetOf (h .shape .rows) (h .shape .cols) levels) (at₃ + k)) (s .levels-line) l (λ k. rw (← flat-shape (h .shape) (s .flat)) (curve-cut k))
 
     cols-cut : at₂ ≤ n → openingCols left (h .shape .rows) at₂ ≡ O.no (refusal 5 0 0)
     unfolding openingCols

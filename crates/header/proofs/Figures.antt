@@ -35,7 +35,11 @@ abbrev pub ownMost : ℕ
 ownMost = lossMost * (2 * stepMost + 1)
 
 abbrev pub standingMost : ℕ
-standingMost = 2 ^ 46
+standingMost = limit lossMost layersMost
+
+pub standing-small : standingMost ≤ 2 ^ 56
+unfolding limit carried ceilDiv
+standing-small = omega arith
 
 module _ {h : Header} (r : Right h) (plan : ℕ → ℕ) where
   pub missing-few : (k : ℕ) → k < layersMost → planesOf h k - plan k ≤ placesMost
@@ -51,7 +55,4 @@ module _ {h : Header} (r : Right h) (plan : ℕ → ℕ) where
   pub standing-most : (k : ℕ) → k ≤ layers (h .shape) → standing (h .shape) (h .curve) (ownLoss h plan) k ≤ standingMost
   standing-most k l =
       le-trans (standing-limit (h .shape) (h .curve) (ownLoss h plan) lossMost k (λ j i. own-most j (omega (arith, layers-few r))))
-      (le-trans (limit-all lossMost k layersMost (omega (arith, layers-few r))) top)
-    where
-      top : limit lossMost layersMost ≤ standingMost
-      top = unfold limit carried ceilDiv in (omega arith)
+      (limit-all lossMost k layersMost (omega (arith, layers-few r)))

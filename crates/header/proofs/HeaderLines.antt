@@ -10,6 +10,8 @@ use lib.ListN.{length, drop}
 use Rattle.layers.specs.declared.Shape.{Shape}
 use Rattle.layers.specs.declared.Curve.{Curve}
 use Rattle.layers.specs.Limits.{pointsMost, levelsMost, stepMost}
+use Rattle.layers.specs.Sheet.{sheetOf}
+use Rattle.layers.proofs.Flat.{flat-shape}
 use Rattle.integers.proofs.Bools.{choice}
 use Rattle.text.specs.declared.Line.the-variants as L
 use Rattle.text.specs.Line.{newline, before, lineAt}
@@ -28,6 +30,8 @@ pub record HeaderLines (bs : List ℕ) (h : Header) (long : ℕ) : Type 0 where
   pub n₅ : ℕ
   pub n₆ : ℕ
   pub n₇ : ℕ
+  -- no line names a depth: it is a sheet by itself
+  pub flat : h .shape .depth ≡ 1
   pub rows-line : lineAt (ascii "rows=") 1 pointsMost bs ≡ L.Number (h .shape .rows) n₁
   pub cols-line : lineAt (ascii "cols=") 1 (pointsMost / h .shape .rows) (drop n₁ bs) ≡ L.Number (h .shape .cols) n₂
   pub levels-line : lineAt (ascii "levels=") 0 levelsMost (drop (n₁ + n₂) bs) ≡ L.Number (h .shape .levels) n₃
@@ -44,9 +48,6 @@ pub record HeaderLines (bs : List ℕ) (h : Header) (long : ℕ) : Type 0 where
   pub cells-are : h .cells ≡ cellsOf (h .shape) (h .planes)
   pub long-is : long ≡ n₁ + n₂ + n₃ + n₄ + n₅ + n₆ + n₇
   pub enough : length bs ≤ long + cellBytes * h .cells
-
-abbrev pub sized : ℕ → ℕ → ℕ → Shape
-sized rows cols levels = record { rows = rows; cols = cols; levels = levels }
 
 abbrev pub headed : Shape → Curve → ℕ → List ℕ → Header
 headed sh curve step planes = record { shape = sh; curve = curve; step = step; planes = planes; cells = cellsOf sh planes }
@@ -74,8 +75,8 @@ module _ (bs : List ℕ) where
   lined =
       turn Lined 1 (lineAt (ascii "rows=") 1 pointsMost bs) (openingCols bs) (refused 4 0 0) (refused 5 1 0) (λ rows n₁ e₁.
       turn Lined 2 (lineAt (ascii "cols=") 1 (pointsMost / rows) (drop n₁ bs)) (λ cols n. openingLevels bs rows cols (n₁ + n)) (refused 4 0 0) (refused 5 2 0) (λ cols n₂ e₂.
-      turn Lined 3 (lineAt (ascii "levels=") 0 levelsMost (drop (n₁ + n₂) bs)) (λ levels n. openingCurve bs (sized rows cols levels) (n₁ + n₂ + n)) (refused 4 0 0) (refused 5 3 0) (λ levels n₃ e₃.
-      let sh = sized rows cols levels in
+      turn Lined 3 (lineAt (ascii "levels=") 0 levelsMost (drop (n₁ + n₂) bs)) (λ levels n. openingCurve bs (sheetOf rows cols levels) (n₁ + n₂ + n)) (refused 4 0 0) (refused 5 3 0) (λ levels n₃ e₃.
+      let sh = sheetOf rows cols levels in
       turn Lined 4 (curveLine (drop (n₁ + n₂ + n₃) bs)) (λ v n. openingStep bs sh (curveOf v) (n₁ + n₂ + n₃ + n)) (refused 4 0 0) (refused 5 4 0) (λ v n₄ e₄.
       turn Lined 5 (lineAt (ascii "step=") 0 stepMost (drop (n₁ + n₂ + n₃ + n₄) bs)) (λ step n. openingPlanes bs sh (curveOf v) step (n₁ + n₂ + n₃ + n₄ + n)) (refused 4 0 0) (refused 5 5 0) (λ step n₅ e₅.
       let at = n₁ + n₂ + n₃ + n₄ + n₅ in
@@ -92,6 +93,7 @@ module _ (bs : List ℕ) where
         n₅ = n₅;
         n₆ = n₆;
         n₇ = n₇;
+        flat = refl;
         rows-line = e₁;
         cols-line = e₂;
         levels-line = e₃;
@@ -122,6 +124,7 @@ opening-of bs h long s =
       s .rows-line,
       s .cols-line,
       s .levels-line,
+      ← flat-shape (h .shape) (s .flat),
       s .curve-line,
       s .step-line,
       lt-ltb _ _ (s .planes-line .inside),

@@ -11,7 +11,8 @@ use lib.Seq.{take-at, getD-append-add}
 use Rattle.layers.specs.declared.Shape.{Shape}
 use Rattle.layers.specs.Limits.{pointsMost, levelsMost, layersMost, stepMost}
 use Rattle.layers.specs.Sheet.{layers, layerCount}
-use Rattle.layers.proofs.Accepting.{Sheet, accepted-by, count-is}
+use Rattle.layers.proofs.Accepting.{Sheet, accepted-by, layers-few, count-is}
+use Rattle.layers.proofs.Flat.{flat-points}
 use Rattle.layers.proofs.Lists.{getD-zeros}
 use Rattle.integers.proofs.Bools.{by}
 use Rattle.text.specs.Line.{newline, before, lineText}
@@ -64,7 +65,14 @@ module _ (bs : List ℕ) (h : Header) (long : ℕ) (s : HeaderLines bs h long) w
       let r : Written (ascii "rows=") 1 pointsMost bs (h .shape .rows) (s .n₁) = written (ascii "rows=") 1 pointsMost _ _ _ (s .rows-line) in
       let c : Written (ascii "cols=") 1 (pointsMost / h .shape .rows) (drop (s .n₁) bs) (h .shape .cols) (s .n₂) = written (ascii "cols=") 1 (pointsMost / h .shape .rows) _ _ _ (s .cols-line) in
       let l : Written (ascii "levels=") 0 levelsMost (drop (s .n₁ + s .n₂) bs) (h .shape .levels) (s .n₃) = written (ascii "levels=") 0 levelsMost _ _ _ (s .levels-line) in
-      record { tall = r .least; wide = c .least; small = product-most (h .shape .rows) (h .shape .cols) pointsMost (c .most); shallow = l .most }
+      record {
+        thick = omega (arith, s .flat);
+        flat = omega (arith, s .flat);
+        tall = r .least;
+        wide = c .least;
+        small = omega (arith, flat-points (h .shape) (s .flat), product-most (h .shape .rows) (h .shape .cols) pointsMost (c .most));
+        shallow = l .most;
+      }
 
   abbrev line : List ℕ
   line = drop (s .n₁ + s .n₂ + s .n₃ + s .n₄ + s .n₅) bs
@@ -73,7 +81,7 @@ module _ (bs : List ℕ) (h : Header) (long : ℕ) (s : HeaderLines bs h long) w
   counted = written-counts (h .shape) (layers (h .shape)) 0 _ (s .counts) (s .planes-line .counts-are)
 
   few : length (s .counts) ≤ layersMost
-  few = omega (arith, counted .long, sizes .shallow)
+  few = omega (arith, counted .long, layers-few (h .shape) sizes)
 
   pub lines-right : Right h
   lines-right =

@@ -12,14 +12,14 @@ use lib.Seq.{getD-take, getD-drop, ext-getD, drop-append-seam}
 use Rattle.layers.specs.Limits.{pointsMost, levelsMost, layersMost, stepMost}
 use Rattle.layers.specs.Sheet.{layers, layerCount}
 use Rattle.layers.proofs.Accepting.{Sheet, accepted-yes, count-is}
-use Rattle.layers.proofs.Fits.{rows-small}
+use Rattle.layers.proofs.Fits.{sheet-small, rows-small}
 use Rattle.text.specs.Line.{newline, before, lineAt, lineText}
 use Rattle.text.proofs.Lines.{read-written}
 use Rattle.text.proofs.Search.{Free, free-append, starts-append}
 use Rattle.header.specs.declared.Header.{Header}
 use Rattle.header.specs.Header.{asciiFrom, ascii, cellBytes, listText, headerText}
 use Rattle.header.specs.Opening.{padded, countsIn, right, opening}
-use Rattle.header.proofs.Rightness.{Right, right-yes, layers-few, counts-past}
+use Rattle.header.proofs.Rightness.{Right, right-yes, one-sheet, layers-few, counts-past}
 use Rattle.header.proofs.ListText.{list-free, read-counts}
 use Rattle.header.proofs.Ends.{ended, seam-end, seam-inside, seam-front, seam-length, rest-next}
 use Rattle.header.proofs.CurveLine.{curveWords, curveCode, code-curve, written-curve}
@@ -104,7 +104,7 @@ module _ (h : Header) (r : Right h) (full : length (h .planes) ≡ layersMost) w
         let b₆ : drop (n₁ + n₂ + n₃ + n₄ + n₅) bs ≡ t₆ ++ (t₇ ++ body) = rest-next bs t₅ _ (n₁ + n₂ + n₃ + n₄) n₅ b₅ refl in
         let b₇ : drop (n₁ + n₂ + n₃ + n₄ + n₅ + n₆) bs ≡ t₇ ++ body = rest-next bs t₆ _ (n₁ + n₂ + n₃ + n₄ + n₅) n₆ b₆ refl in
         let long : length (headerText h) ≡ n₁ + n₂ + n₃ + n₄ + n₅ + n₆ + n₇ = ap length text ∙ simp length-append in
-        let wide : sh .cols ≤ pointsMost / sh .rows = le-div-iff-mul-le (sizes .tall) .1 (omega (arith, mul-comm (sh .cols) (sh .rows), sizes .small)) in
+        let wide : sh .cols ≤ pointsMost / sh .rows = le-div-iff-mul-le (sizes .tall) .1 (omega (arith, mul-comm (sh .cols) (sh .rows), sheet-small sizes)) in
         record {
           n₁ = n₁;
           n₂ = n₂;
@@ -113,6 +113,7 @@ module _ (h : Header) (r : Right h) (full : length (h .planes) ≡ layersMost) w
           n₅ = n₅;
           n₆ = n₆;
           n₇ = n₇;
+          flat = one-sheet r;
           rows-line = ap (lineAt (ascii "rows=") 1 pointsMost) b₁ ∙ read-written (ascii "rows=") 1 pointsMost (sh .rows) _ (unfold asciiFrom before in refl) (sizes .tall) (rows-small sizes);
           cols-line = ap (lineAt (ascii "cols=") 1 (pointsMost / sh .rows)) b₂ ∙ read-written (ascii "cols=") 1 (pointsMost / sh .rows) (sh .cols) _ (unfold asciiFrom before in refl) (sizes .wide) wide;
           levels-line = ap (lineAt (ascii "levels=") 0 levelsMost) b₃ ∙ read-written (ascii "levels=") 0 levelsMost (sh .levels) _ (unfold asciiFrom before in refl) (omega arith) (sizes .shallow);

@@ -12,6 +12,7 @@ use lib.ListN.{length, drop}
 use Rattle.layers.specs.declared.Shape.{Shape}
 use Rattle.layers.specs.declared.Curve.{Curve}
 use Rattle.layers.specs.Limits.{pointsMost, levelsMost, stepMost}
+use Rattle.layers.specs.Sheet.{sheetOf}
 use Rattle.integers.proofs.Bools.{choice}
 use Rattle.text.specs.Line.{newline, before, lineAt}
 use Rattle.header.specs.declared.Header.{Header}
@@ -22,7 +23,7 @@ use Rattle.header.specs.Refusals.{refusal, detailsOf}
 use Rattle.header.specs.Header.{cellBytes, ascii}
 use Rattle.header.specs.Opening.{Opening, no, told, right, curveLine, curveOf, padded, openingCells, openingPlanes, openingStep, openingCurve, openingLevels, openingCols, opening}
 use Rattle.header.proofs.Turns.{turn, turn-planes}
-use Rattle.header.proofs.HeaderLines.{sized, headed, Accepts, accepting}
+use Rattle.header.proofs.HeaderLines.{headed, Accepts, accepting}
 use Rattle.header.proofs.Opens.{opened-right}
 use Rattle.header.proofs.Refusal.{the-type}
 
@@ -55,7 +56,7 @@ module _ (bs : List ℕ) where
   levels-answer : (rows cols at : ℕ) → Answer (openingLevels bs rows cols at)
   unfolding openingLevels
   levels-answer rows cols at =
-      turn Answer 3 (lineAt (ascii "levels=") 0 levelsMost (drop at bs)) (λ levels n. openingCurve bs (sized rows cols levels) (at + n)) cut (wrong 3 (omega arith) (omega arith)) (λ levels n _. curve-answer (sized rows cols levels) (at + n))
+      turn Answer 3 (lineAt (ascii "levels=") 0 levelsMost (drop at bs)) (λ levels n. openingCurve bs (sheetOf rows cols levels) (at + n)) cut (wrong 3 (omega arith) (omega arith)) (λ levels n _. curve-answer (sheetOf rows cols levels) (at + n))
 
   cols-answer : (rows at : ℕ) → Answer (openingCols bs rows at)
   unfolding openingCols

@@ -12,6 +12,7 @@ use Rattle.layers.specs.declared.Shape.{Shape}
 use Rattle.layers.specs.Limits.{layersMost, stepMost}
 use Rattle.layers.specs.Sheet.{accepted, layers, layerSize}
 use Rattle.layers.specs.Calls.{sizing}
+use Rattle.layers.proofs.Accepting as A
 use Rattle.layers.proofs.Accepting.{accepted-yes}
 use Rattle.integers.proofs.Bools.{and-left, and-right, and-both, by, choice}
 use Rattle.header.specs.declared.Header.{Header}
@@ -84,8 +85,12 @@ module _ (h : Header) where
 
 -- ---- what follows
 module _ {h : Header} (r : Right h) where
+  -- there is no line for a depth before request 10, and no shape of another depth is accepted
+  pub one-sheet : h .shape .depth ≡ 1
+  one-sheet = let s = accepted-yes (h .shape) (r .shape) in omega (arith, s .thick, s .flat)
+
   pub layers-few : layers (h .shape) ≤ layersMost
-  layers-few = omega (arith, accepted-yes (h .shape) (r .shape) .shallow)
+  layers-few = A.layers-few (h .shape) (accepted-yes (h .shape) (r .shape))
 
   pub counts-few : (k : ℕ) → k < layersMost → planesOf h k ≤ placesMost
   counts-few k l = omega (arith, r .counts k l, most-le (h .shape) k)

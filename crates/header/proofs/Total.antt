@@ -11,6 +11,7 @@ use Rattle.integers.specs.Floor.{ceilDiv}
 use Rattle.layers.specs.declared.Shape.{Shape}
 use Rattle.layers.specs.Lists.{total}
 use Rattle.layers.specs.Sheet.{accepted, layers, layerSize}
+use Rattle.layers.proofs.Accepting as A
 use Rattle.layers.proofs.Accepting.{accepted-yes}
 use Rattle.integers.proofs.Bools.{choice, and-left}
 use Rattle.layers.proofs.Places.{size-most}
@@ -46,7 +47,7 @@ module _ (sh : Shape) (ok : accepted sh ≡ true) where
 
   -- one plane of each layer
   pub layers-most : total (planeCells sh) (layers sh) ≤ placeCellsMost
-  layers-most = omega (arith, wastes (planeCells sh) (layerSize sh) (plane-waste sh) (layers sh), layers-fill sh ok, accepted-yes sh ok .small, accepted-yes sh ok .shallow)
+  layers-most = omega (arith, wastes (planeCells sh) (layerSize sh) (plane-waste sh) (layers sh), layers-fill sh ok, accepted-yes sh ok .small, A.layers-few sh (accepted-yes sh ok))
 
   module _ (planes : List ℕ) (few : (k : ℕ) → k < layers sh → getD planes k 0 ≤ placesMost) where
     pub cells-most : cellsOf sh planes ≤ cellsMost

@@ -4,13 +4,14 @@ use Prim.Native.Nat.{_-_}
 use lib.ListN.{replicate}
 use Rattle.layers.specs.declared.Curve.the-variants.{Linear}
 use Rattle.layers.specs.Limits.{layersMost}
+use Rattle.layers.specs.Sheet.{sheetOf}
 use Rattle.header.specs.declared.Header.{Header}
 
 -- "1 by 5, L 1, linear, e 1 .. planes=5,1,0, cells=6"
 abbrev pub benchHeader : Header
 benchHeader =
     record {
-      shape = record { rows = 1; cols = 5; levels = 1 };
+      shape = sheetOf 1 5 1;
       curve = Linear;
       step = 1;
       planes = 5 ∷ 1 ∷ replicate (layersMost - 2) 0;

@@ -9,7 +9,7 @@ use Rattle.layers.specs.declared.Shape.{Shape}
 use Rattle.layers.specs.declared.Curve.{Curve}
 use Rattle.layers.specs.declared.Curve.the-variants.{Linear, Cubic}
 use Rattle.layers.specs.Limits.{pointsMost, levelsMost, layersMost, stepMost}
-use Rattle.layers.specs.Sheet.{accepted, layers, layerSize}
+use Rattle.layers.specs.Sheet.{accepted, sheetOf, layers, layerSize}
 use Rattle.text.specs.declared.Number.{Number}
 use Rattle.text.specs.declared.Number.the-variants as N
 use Rattle.text.specs.declared.Line.{Line}
@@ -33,7 +33,7 @@ pub record Opening : Type 0 where
 abbrev pub blank : Header
 blank =
     record {
-      shape = record { rows = 0; cols = 0; levels = 0 };
+      shape = record { depth = 0; rows = 0; cols = 0; levels = 0 };
       curve = Linear;
       step = 0;
       planes = replicate layersMost 0;
@@ -134,7 +134,7 @@ openingCurve bs sh at = taking 4 (curveLine (drop at bs)) (λ v n. openingStep b
 unfoldable pub openingLevels : List ℕ → ℕ → ℕ → ℕ → Opening
 openingLevels bs rows cols at =
     taking 3 (lineAt (ascii "levels=") 0 levelsMost (drop at bs)) (λ levels n.
-    openingCurve bs (record { rows = rows; cols = cols; levels = levels }) (at + n))
+    openingCurve bs (sheetOf rows cols levels) (at + n))
 
 -- "the product of sizes to line 2": at most so many columns that the points are at most 8,192
 unfoldable pub openingCols : List ℕ → ℕ → ℕ → Opening

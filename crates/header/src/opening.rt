@@ -30,6 +30,7 @@ fn refused(refusal: Refusal) -> Opened
         refusal,
         header: Header {
             shape: Shape {
+                depth: 0,
                 rows: 0,
                 cols: 0,
                 levels: 0,
@@ -80,7 +81,7 @@ fn read_counts(text: &[u8], shape: Shape) -> Counts
     requires { ⌜ S.accepted shape ≡ true ⌝ }
     ensures { λ r. ⌜ r ≡ O.countsOf (O.countsIn shape (S.layers shape) 0 (now (text .entry))) ⌝ }
 {
-    let last = 2 * shape.levels;
+    let last = layers::layer_count(shape) - 1;
     let mut planes = [0u64; MOST_LAYERS];
     let mut at: usize = 0;
     for k in 0..last {
@@ -219,11 +220,7 @@ fn open_levels(bytes: &[u8], rows: u64, cols: u64, at: usize) -> Opened
         Line::Short => refused(Refusal::HeaderCut),
         Line::Wrong => refused(Refusal::BadLine(3)),
         Line::Number { value, length } => {
-            let shape = Shape {
-                rows: rows as usize,
-                cols: cols as usize,
-                levels: value as usize,
-            };
+            let shape = layers::sheet_of(rows as usize, cols as usize, value as usize);
             open_curve(bytes, shape, at + length)
         }
     }

@@ -125,14 +125,14 @@ symmetric Cubic m =
     )
 
 -- ---- so a sheet's layers carry an error, and two bounds that hold it
-module _ (sh : Shape) (ok : accepted sh ≡ true) (c : Curve) (k : ℕ) (hk : k < layers sh) where
-  pub sheet-near : (m : ℕ) → Carries (layering sh c) k (Near m) (Near (carry sh c k m))
-  sheet-near m = sheet-carries sh ok c (Near m) (Near (carried c m)) (near-rule c m) k (λ z. near-refl _ _) hk
+module _ (sh : Shape) (ok : accepted sh ≡ true) (curve : Curve) (k : ℕ) (hk : k < layers sh) where
+  pub sheet-near : (m : ℕ) → Carries (layering sh curve) k (Near m) (Near (carry sh curve k m))
+  sheet-near m = sheet-carries sh ok curve (Near m) (Near (carried curve m)) k (near-rule curve m) (λ z. near-refl _ _) hk
 
   -- at the anchors, where nothing stands before, the bounds have to hold 0
-  pub sheet-between : (l h : ℤ) → (k ≡ 0 → Between (lowCarried c l h) (highCarried c l h) (pos 0) (pos 0))
-      → Carries (layering sh c) k (Between l h) (Between (lowCarried c l h) (highCarried c l h))
-  sheet-between l h none = sheet-carries sh ok c (Between l h) (Between (lowCarried c l h) (highCarried c l h)) (between-rule c l h) k none hk
+  pub sheet-between : (l h : ℤ) → (k ≡ 0 → Between (lowCarried curve l h) (highCarried curve l h) (pos 0) (pos 0))
+      → Carries (layering sh curve) k (Between l h) (Between (lowCarried curve l h) (highCarried curve l h))
+  sheet-between l h none = sheet-carries sh ok curve (Between l h) (Between (lowCarried curve l h) (highCarried curve l h)) k (between-rule curve l h) none hk
 
-  pub sheet-within : (m : ℕ) → Carries (layering sh c) k (λ a _. Within m a) (λ a _. Within (carry sh c k m) a)
-  sheet-within m = sheet-carries sh ok c (λ a _. Within m a) (λ a _. Within (carried c m) a) (within-rule c m) k (λ z. record { size = omega arith }) hk
+  pub sheet-within : (m : ℕ) → Carries (layering sh curve) k (λ a _. Within m a) (λ a _. Within (carry sh curve k m) a)
+  sheet-within m = sheet-carries sh ok curve (λ a _. Within m a) (λ a _. Within (carried curve m) a) k (within-rule curve m) (λ z. record { size = omega arith }) hk

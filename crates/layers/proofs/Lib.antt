@@ -11,14 +11,17 @@ pub mod Members
 pub mod Runs
 pub mod Law
 pub mod SheetLaw
+pub mod Flat
 pub mod Carry
 pub mod Error
 pub mod Sweep
 pub mod InPlace
 pub mod Grids
+pub mod Walk
 pub mod Rows
 pub mod Range
 pub mod Places
+pub mod Column
 pub mod Standing
 pub mod Size
 pub mod LinePoints

@@ -6,7 +6,7 @@ use mathlib.Core.List.{List}
 use Prim.Native.Nat.{ℕ, zero, suc, _+_, _*_, _/_, _%_, _^_, _<_, _≤_}
 use native.Mathlib.Nat.{le-trans, mul-le-mul-left}
 use native.Mathlib.Omega.{arith}
-use lib.Arith.{digits-lt, digits-div, digits-mod}
+use lib.Arith.{digits-div, digits-mod}
 use lib.IntN.{ℤ, pos}
 use lib.ListN.{length}
 use Rattle.integers.specs.Distance.{up, down, Within, Near}
@@ -19,13 +19,15 @@ use Rattle.layers.specs.declared.Curve.{Curve}
 use Rattle.layers.specs.declared.Curve.the-variants.{Linear, Cubic}
 use Rattle.layers.specs.Limits.{layersMost, stepMost}
 use Rattle.layers.specs.Lists.{at}
-use Rattle.layers.specs.Sheet.{accepted, points, layers, has, inLayer, direction, spacing}
+use Rattle.layers.specs.Sheet.{accepted, points, place, layers, has, inLayer, direction, spacing}
 use Rattle.layers.specs.Prediction.{width, rebuiltFrom, predicted, predictedAt}
 use Rattle.layers.specs.Layering.{layering, valuesBy, blank, reads, writes, coefs}
 use Rattle.layers.specs.Carry.{carried, carry}
-use Rattle.layers.specs.Loops.{writtenMost, predictedMost, valueMost, Below, Samples, AtPoint}
+use Rattle.layers.specs.Loops.{writtenMost, predictedMost, valueMost, Below, Samples}
 use Rattle.layers.proofs.Rises.{rises}
-use Rattle.layers.proofs.Accepting.{accepted-yes}
+use Rattle.layers.proofs.Accepting.{accepted-yes, layers-few}
+use Rattle.layers.proofs.Fits.{place-in}
+use Rattle.layers.proofs.Grids.{Spot}
 use Rattle.layers.proofs.Point.{within-more, rebuilt-carry, coefficient-range}
 use Rattle.layers.proofs.Members.{layer-of}
 use Rattle.layers.proofs.Law.{length-blank, coef-at, stage-near, stage-rel}
@@ -43,22 +45,25 @@ value-carried Linear = omega arith
 value-carried Cubic = omega arith
 
 -- ---- predictions from values of at most m
-module _ {sh : Shape} {k r c : ℕ} (here : AtPoint sh k r c) (curve : Curve) (vs : List ℤ) where
-  pub predicted-within : (m : ℕ) → Below m sh curve k vs → Within (carry sh curve k m) (predicted sh curve (direction k) (spacing (sh .levels) k) vs r c)
+module _ {sh : Shape} {k z r c : ℕ} (here : Spot sh k z r c) (curve : Curve) (vs : List ℤ) where
+  pub predicted-within : (m : ℕ) → Below m sh curve k vs → Within (carry sh curve k m) (predicted sh curve (direction sh k) (spacing sh k) vs z r c)
   predicted-within m low =
+      let y = z * sh .rows + r in
       let hc = here .col in
-      rw (digits-div r hc, digits-mod r hc) at (go (r * sh .cols + c) (digits-lt (here .row) hc) (rw (digits-div r hc, digits-mod r hc) (here .here)))
+      let hr = here .row in
+      rw (digits-div y hc, digits-mod y hc, digits-div z hr, digits-mod z hr) at
+      (go (place sh z r c) (place-in sh (here .sheet) hr hc) (rw (digits-div y hc, digits-mod y hc, digits-div z hr, digits-mod z hr) (here .here)))
     where
-      go : (p : ℕ) → p < points sh → has (sh .levels) k (p / sh .cols) (p % sh .cols) ≡ true
-          → Within (carry sh curve k m) (predicted sh curve (direction k) (spacing (sh .levels) k) vs (p / sh .cols) (p % sh .cols))
-      go p hp i = unfold predictedAt inLayer in (sheet-within sh (here .shape) curve k (omega (arith, here .layer)) m vs vs low p hp i)
+      go : (p : ℕ) → p < points sh → has sh k (p / sh .cols / sh .rows) (p / sh .cols % sh .rows) (p % sh .cols) ≡ true
+          → Within (carry sh curve k m) (predicted sh curve (direction sh k) (spacing sh k) vs (p / sh .cols / sh .rows) (p / sh .cols % sh .rows) (p % sh .cols))
+      go p hp i = unfold predictedAt inLayer in (sheet-within sh (here .shape) curve k (here .layer) m vs vs low p hp i)
 
   -- from values written
-  pub predicted-near : Below writtenMost sh curve k vs → Within predictedMost (predicted sh curve (direction k) (spacing (sh .levels) k) vs r c)
+  pub predicted-near : Below writtenMost sh curve k vs → Within predictedMost (predicted sh curve (direction sh k) (spacing sh k) vs z r c)
   predicted-near low = within-more (written-carried curve) (predicted-within writtenMost low)
 
   -- from any values
-  pub predicted-low : Below valueMost sh curve k vs → Within (2 * valueMost) (predicted sh curve (direction k) (spacing (sh .levels) k) vs r c)
+  pub predicted-low : Below valueMost sh curve k vs → Within (2 * valueMost) (predicted sh curve (direction sh k) (spacing sh k) vs z r c)
   predicted-low low = within-more (value-carried curve) (predicted-within valueMost low)
 
 -- ---- samples that are accepted
@@ -82,7 +87,7 @@ module _ {sh : Shape} {e : ℕ} {xs : List ℤ} (ok : Samples sh e xs) (curve : 
   coefs-small p hp =
       let Y = layering sh curve in
       let proper = sheet-proper sh (ok .shape) curve in
-      let j = layer-of proper p in
+      let j = layer-of proper p hp in
       subst (Within 2441215) (sym (coef-at Y proper e xs (j .0) p (j .1) hp (j .2)))
       (coefficient-range (at xs p) (Y .predict (j .0) (valuesBy Y (writes e xs) (blank Y) (j .0)) p) e (ok .small p hp)
       (predicted-small (blank Y) (length-blank Y) (j .0) (j .1) p hp (j .2)))
@@ -133,7 +138,7 @@ module _ (sh : Shape) (ok : accepted sh ≡ true) (curve : Curve) (e : ℕ) (ste
   stage-limit B small vs l =
       stage-rel (layering sh curve) (sheet-proper sh ok curve) e (λ k a b. Within (limit B k) a) (λ k a b. Within (carried Cubic (limit B k)) a) (λ k a b. Within B a)
       qs qs
-      (λ k hk. sheet-carries sh ok curve (λ a _. Within (limit B k) a) (λ a _. Within (carried Cubic (limit B k)) a) (size-rule curve (limit B k)) k (λ z. record { size = omega arith }) hk)
+      (λ k hk. sheet-carries sh ok curve (λ a _. Within (limit B k) a) (λ a _. Within (carried Cubic (limit B k)) a) k (size-rule curve (limit B k)) (λ z. record { size = omega arith }) hk)
       (λ k a b hk r. within-more (limit-rises B k) r)
       (λ k p y y′ q q′ hk hp m a b. within-more (sum B k) (near-within (subst (Near _ (rebuiltFrom y q e)) (zero-rebuilt e) (rebuilt-carry e (within-near a) (within-near b)))))
       (λ k p hk hp m. small p hp)
@@ -143,7 +148,7 @@ module _ (sh : Shape) (ok : accepted sh ≡ true) (curve : Curve) (e : ℕ) (ste
       sum B k = unfold limit in (omega (arith, product B e step))
 
   few : (k : ℕ) → k ≤ layers sh → limit (2 ^ 31) k ≤ valueMost
-  few k hk = le-trans (limit-all (2 ^ 31) k layersMost (omega (arith, accepted-yes sh ok .shallow))) limit-most
+  few k hk = le-trans (limit-all (2 ^ 31) k layersMost (omega (arith, layers-few sh (accepted-yes sh ok)))) limit-most
 
   pub any-limit : ((p : ℕ) → p < points sh → Within (2 ^ 31) (at qs p)) → (vs : List ℤ) → length vs ≡ points sh → (k : ℕ) → k ≤ layers sh
       → Below valueMost sh curve k (valuesBy (layering sh curve) (reads e qs) vs k)

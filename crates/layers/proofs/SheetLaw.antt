@@ -5,12 +5,11 @@
 --     sheet-proper      a sheet's layers are proper
 --     exactly-one       so every point stands in exactly one of them
 use mathlib.Core.Path.{_≡_, refl, sym, ap, _∙_}
-use mathlib.Core.Bool.{Bool, true, false, cond, _||_, true≢false, false≢true}
+use mathlib.Core.Bool.{Bool, true, false, cond, _&&_, _||_, true≢false, false≢true}
 use mathlib.Core.List.{List}
 use Prim.Native.Nat.{ℕ, zero, suc, _+_, _-_, _*_, _/_, _%_, _<_, _≤_}
-use native.Mathlib.Nat.{mul-one, add-comm, mod-lt, div-lt-iff-lt-mul}
 use native.Mathlib.Omega.{arith}
-use lib.Arith.{digits-div, digits-mod, digits-lt}
+use lib.Arith.{digits-div, digits-mod}
 use lib.Dec.{leb, ltb, eqb}
 use lib.IntN.{ℤ, pos}
 use borrow.Author.Tests.{ltb-true, leb-true, eqb-true}
@@ -18,18 +17,18 @@ use Rattle.layers.specs.declared.Shape.{Shape}
 use Rattle.layers.specs.declared.Curve.{Curve}
 use Rattle.layers.specs.declared.Curve.the-variants.{Linear, Cubic}
 use Rattle.layers.specs.declared.Direction.{Direction}
-use Rattle.layers.specs.declared.Direction.the-variants.{Anchor, Across, Down}
+use Rattle.layers.specs.declared.Direction.the-variants.{Anchor, Across, Down, Between}
 use Rattle.layers.specs.Lists.{at}
-use Rattle.layers.specs.Sheet.{accepted, layers, member, direction, spacing, has, inLayer}
+use Rattle.layers.specs.Sheet.{accepted, points, place, directions, layers, member, direction, spacing, has, inLayer}
 use Rattle.layers.specs.Prediction.{linear, cubic, on, usesFour, line, predicted, predictedAt}
 use Rattle.layers.specs.Layering.{Proper, Carries, layering}
 use Rattle.layers.specs.Layering as Y
 use Rattle.layers.proofs.Accepting.{accepted-yes}
 use Rattle.integers.proofs.Bools.{and-left, and-right, by, cond-rel}
 use Rattle.layers.proofs.Parity.{odd-after, odd-after-3, odd-before, odd-before-3}
-use Rattle.layers.proofs.Earlier.{Looks}
+use Rattle.layers.proofs.Earlier.{mult, odd, Looks}
 use Rattle.layers.proofs.Cover.{known, all-known, fresh, looks-known}
-use Rattle.layers.proofs.Fits.{spacing-some}
+use Rattle.layers.proofs.Fits.{place-in, on-row, on-column, on-depth, sheet-of, row-in, col-in, spacing-some}
 use Rattle.layers.proofs.Members.{layer-of, only-one}
 
 -- what the prediction rule makes of a relation: of one value, of two, and of four where the curve takes four
@@ -44,11 +43,15 @@ uses-four Cubic n t s e =
     (refl, leb-true (3 * s) t (and-left (leb (3 * s) t) (ltb (t + 3 * s) n) e), ltb-true (t + 3 * s) n (and-right (leb (3 * s) t) (ltb (t + 3 * s) n) e))
 
 -- a point of a layer stands at an odd multiple of s on its line
-pub across-odd : (s r c : ℕ) → member Across s r c ≡ true → c % (2 * s) ≡ s
-across-odd s r c m = eqb-true _ _ (and-right (eqb (r % (2 * s)) 0) (eqb (c % (2 * s)) s) m)
+module _ (s z r c : ℕ) where
+  pub across-odd : member Across s z r c ≡ true → c % (2 * s) ≡ s
+  across-odd m = eqb-true _ _ (and-right (mult (2 * s) z && mult (2 * s) r) (odd s c) m)
 
-pub down-odd : (s r c : ℕ) → member Down s r c ≡ true → r % (2 * s) ≡ s
-down-odd s r c m = eqb-true _ _ (and-left (eqb (r % (2 * s)) s) (eqb (c % s) 0) m)
+  pub down-odd : member Down s z r c ≡ true → r % (2 * s) ≡ s
+  down-odd m = eqb-true _ _ (and-right (mult (2 * s) z) (odd s r) (and-left (mult (2 * s) z && odd s r) (mult s c) m))
+
+  pub between-odd : member Between s z r c ≡ true → z % (2 * s) ≡ s
+  between-odd m = eqb-true _ _ (and-left (odd s z) (mult s r) (and-left (odd s z && mult s r) (mult s c) m))
 
 module _ (curve : Curve) (R R′ : ℤ → ℤ → Type 0) (rule : Rule curve R R′) (l l′ : List ℤ) where
   -- two lists that stand in R at the even multiples of s along a line have predictions in R′ at an odd one
@@ -70,66 +73,72 @@ module _ (curve : Curve) (R R′ : ℤ → ℤ → Type 0) (rule : Rule curve R 
       (λ e′. rule .two _ _ _ _ b (rel (t + s) (ltb-true (t + s) n e′) (odd-after s t some odd)))
       (λ e′. rule .one _ _ b))
 
-  predicted-rel : (sh : Shape) (s : ℕ) → 0 < s → (dir : Direction) (r c : ℕ) → r < sh .rows → c < sh .cols → member dir s r c ≡ true
-      → ((r′ c′ : ℕ) → r′ < sh .rows → c′ < sh .cols → Looks dir s r c r′ c′ → R (at l (r′ * sh .cols + c′)) (at l′ (r′ * sh .cols + c′)))
+  predicted-rel : (sh : Shape) (s : ℕ) → 0 < s → (dir : Direction) (z r c : ℕ) → z < sh .depth → r < sh .rows → c < sh .cols → member dir s z r c ≡ true
+      → ((z′ r′ c′ : ℕ) → z′ < sh .depth → r′ < sh .rows → c′ < sh .cols → Looks dir s z r c z′ r′ c′ → R (at l (place sh z′ r′ c′)) (at l′ (place sh z′ r′ c′)))
       → (dir ≡ Anchor → R′ (pos 0) (pos 0))
-      → R′ (predicted sh curve dir s l r c) (predicted sh curve dir s l′ r c)
-  predicted-rel sh s some Anchor r c hr hc m rel none = none refl
-  predicted-rel sh s some Across r c hr hc m rel none =
-      line-rel (r * sh .cols) 1 (sh .cols) c s some (across-odd s r c m) hc
-      (λ u hu even. rw (mul-one u) (rel r u hr hu (refl, even)))
-  predicted-rel sh s some Down r c hr hc m rel none =
-      line-rel c (sh .cols) (sh .rows) r s some (down-odd s r c m) hr
-      (λ u hu even. rw (add-comm c (u * sh .cols)) (rel u c hu hc (refl, even)))
+      → R′ (predicted sh curve dir s l z r c) (predicted sh curve dir s l′ z r c)
+  predicted-rel sh s some Anchor z r c hz hr hc m rel none = none refl
+  predicted-rel sh s some Across z r c hz hr hc m rel none =
+      line-rel (place sh z r 0) 1 (sh .cols) c s some (across-odd s z r c m) hc
+      (λ u hu even. rw (on-row sh z r u) (rel z r u hz hr hu (refl, refl, even)))
+  predicted-rel sh s some Down z r c hz hr hc m rel none =
+      line-rel (place sh z 0 c) (sh .cols) (sh .rows) r s some (down-odd s z r c m) hr
+      (λ u hu even. rw (on-column sh z c u) (rel z u c hz hu hc (refl, even, refl)))
+  predicted-rel sh s some Between z r c hz hr hc m rel none =
+      line-rel (place sh 0 r c) (sh .rows * sh .cols) (sh .depth) z s some (between-odd s z r c m) hz
+      (λ u hu even. rw (on-depth sh r c u) (rel u r c hu hr hc (even, refl, refl)))
 
-pub known-is : (sh : Shape) (curve : Curve) (k p : ℕ) → Y.known (layering sh curve) k p ≡ known (sh .levels) k (p / sh .cols) (p % sh .cols)
+pub known-is : (sh : Shape) (curve : Curve) (k p : ℕ) → Y.known (layering sh curve) k p ≡ known sh k (p / sh .cols / sh .rows) (p / sh .cols % sh .rows) (p % sh .cols)
 unfolding Y.known known inLayer
 known-is sh curve zero p = refl
-known-is sh curve (suc k) p = ap (λ (t : Bool). t || has (sh .levels) k (p / sh .cols) (p % sh .cols)) (known-is sh curve k p)
+known-is sh curve (suc k) p = ap (λ (t : Bool). t || has sh k (p / sh .cols / sh .rows) (p / sh .cols % sh .rows) (p % sh .cols)) (known-is sh curve k p)
 
 -- what a point of a layer looks at is known before that layer
-pub looks-at : (sh : Shape) (curve : Curve) (k r c r′ c′ : ℕ) → k ≤ 2 * sh .levels → has (sh .levels) k r c ≡ true → c′ < sh .cols
-    → Looks (direction k) (spacing (sh .levels) k) r c r′ c′ → Y.known (layering sh curve) k (r′ * sh .cols + c′) ≡ true
-looks-at sh curve k r c r′ c′ hk m hc lo =
-    known-is sh curve k (r′ * sh .cols + c′) ∙ rw (digits-div r′ hc, digits-mod r′ hc) (looks-known (sh .levels) k r c r′ c′ hk m lo)
+pub looks-at : (sh : Shape) (curve : Curve) (k z r c z′ r′ c′ : ℕ) → k < layers sh → has sh k z r c ≡ true → z′ < sh .depth → r′ < sh .rows → c′ < sh .cols
+    → Looks (direction sh k) (spacing sh k) z r c z′ r′ c′ → Y.known (layering sh curve) k (place sh z′ r′ c′) ≡ true
+looks-at sh curve k z r c z′ r′ c′ hk m hz hr hc lo =
+    known-is sh curve k (place sh z′ r′ c′)
+    ∙ rw (digits-div (z′ * sh .rows + r′) hc, digits-mod (z′ * sh .rows + r′) hc, digits-div z′ hr, digits-mod z′ hr) (looks-known sh k z r c z′ r′ c′ hk hz m lo)
 
 -- the anchors stand in layer 0
-anchor-first : (k : ℕ) → direction k ≡ Anchor → k ≡ 0
-anchor-first k e = by (eqb k 0) (λ t. eqb-true k 0 t) (λ t. absurd (go (eqb k 0) (eqb (k % 2) 1) t e))
+anchor-first : (sh : Shape) (k : ℕ) → direction sh k ≡ Anchor → k ≡ 0
+anchor-first sh k e = by (eqb k 0) (λ t. eqb-true k 0 t) (λ t. let i = (k - 1) % directions sh in absurd (go (eqb k 0) (eqb i 0) (eqb i 1) t e))
   where
-    go : (t u : Bool) → t ≡ false → cond t Anchor (cond u Across Down) ≡ Anchor → ⊥
-    go true u q e = true≢false q
-    go false true q e = let z : _≡_ {A = ℕ} 0 1 = cc in omega arith
-    go false false q e = let z : _≡_ {A = ℕ} 0 1 = cc in omega arith
+    go : (t u v : Bool) → t ≡ false → cond t Anchor (cond u Across (cond v Down Between)) ≡ Anchor → ⊥
+    go true u v q e = true≢false q
+    go false true v q e = let z : _≡_ {A = ℕ} 0 1 = cc in omega arith
+    go false false true q e = let z : _≡_ {A = ℕ} 0 1 = cc in omega arith
+    go false false false q e = let z : _≡_ {A = ℕ} 0 1 = cc in omega arith
 
 module _ (sh : Shape) (ok : accepted sh ≡ true) (curve : Curve) where
-  pub sheet-carries : (R R′ : ℤ → ℤ → Type 0) → Rule curve R R′ → (k : ℕ) → (k ≡ 0 → R′ (pos 0) (pos 0)) → k < layers sh → Carries (layering sh curve) k R R′
+  pub sheet-carries : (R R′ : ℤ → ℤ → Type 0) (k : ℕ) → Rule curve R R′ → (k ≡ 0 → R′ (pos 0) (pos 0)) → k < layers sh → Carries (layering sh curve) k R R′
   unfolding predictedAt inLayer
-  sheet-carries R R′ rule k none hk vs vs′ rel p hp m =
-      let r = p / sh .cols in
+  sheet-carries R R′ k rule none hk vs vs′ rel p hp m =
+      let z = p / sh .cols / sh .rows in
+      let r = p / sh .cols % sh .rows in
       let c = p % sh .cols in
-      let wide = accepted-yes sh ok .wide in
-      predicted-rel curve R R′ rule vs vs′ sh (spacing (sh .levels) k) (spacing-some (sh .levels) k) (direction k) r c
-      (div-lt-iff-lt-mul wide .1 hp) (mod-lt p wide) m
-      (λ r′ c′ hr hc lo. rel (r′ * sh .cols + c′) (digits-lt hr hc) (looks-at sh curve k r c r′ c′ (omega arith) m hc lo))
-      (λ e. none (anchor-first k e))
+      let s = accepted-yes sh ok in
+      predicted-rel curve R R′ rule vs vs′ sh (spacing sh k) (spacing-some sh k) (direction sh k) z r c
+      (sheet-of s p hp) (row-in s p hp) (col-in s p hp) m
+      (λ z′ r′ c′ hz hr hc lo. rel (place sh z′ r′ c′) (place-in sh hz hr hc) (looks-at sh curve k z r c z′ r′ c′ hk m hz hr hc lo))
+      (λ e. none (anchor-first sh k e))
 
   pub sheet-proper : Proper (layering sh curve)
   sheet-proper =
       record {
-        all = λ p. known-is sh curve (layers sh) p ∙ all-known (sh .levels) (p / sh .cols) (p % sh .cols);
-        fresh = λ k p hk e. unfold inLayer in (fresh (sh .levels) k (p / sh .cols) (p % sh .cols) (omega arith) (sym (known-is sh curve k p) ∙ e));
-        local = λ k. sheet-carries _≡_ _≡_
+        all = λ p hp. known-is sh curve (layers sh) p ∙ all-known sh (p / sh .cols / sh .rows) (p / sh .cols % sh .rows) (p % sh .cols) (sheet-of (accepted-yes sh ok) p hp);
+        fresh = λ k p hk hp e. unfold inLayer in (fresh sh (p / sh .cols / sh .rows) (p / sh .cols % sh .rows) (p % sh .cols) (sheet-of (accepted-yes sh ok) p hp) k hk (sym (known-is sh curve k p) ∙ e));
+        local = λ k. sheet-carries _≡_ _≡_ k
             (record {
               one = λ b b′ e. e;
               two = λ b c b′ c′ e f. λ i. linear (e i) (f i);
               four = λ t a b c d a′ b′ c′ d′ e f g h. λ i. cubic (e i) (f i) (g i) (h i);
             })
-            k (λ z. refl);
+            (λ z. refl);
       }
 
   -- every point stands in exactly one layer
-  pub exactly-one : (p : ℕ) → (k : ℕ) × (k < layers sh) × (inLayer sh k p ≡ true) × ((j : ℕ) → j < layers sh → inLayer sh j p ≡ true → j ≡ k)
-  exactly-one p =
-      let w = layer-of sheet-proper p in
-      (w .0, w .1, w .2, λ j hj m. only-one sheet-proper j (w .0) p hj (w .1) m (w .2))
+  pub exactly-one : (p : ℕ) → p < points sh → (k : ℕ) × (k < layers sh) × (inLayer sh k p ≡ true) × ((j : ℕ) → j < layers sh → inLayer sh j p ≡ true → j ≡ k)
+  exactly-one p hp =
+      let w = layer-of sheet-proper p hp in
+      (w .0, w .1, w .2, λ j hj m. only-one sheet-proper j (w .0) p hj (w .1) hp m (w .2))

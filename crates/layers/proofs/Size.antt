@@ -1,9 +1,9 @@
--- How many points a layer has: as many as its grid has rows times columns, by counting row by row, and a row's by the one number of steps
+-- How many points a layer has: as many as its grid has sheets times rows times columns, by counting row by row and sheet by sheet, and a row's by the one number of steps
 -- that ends in its last gap. And all layers together have the sheet's points, since every point stands in exactly one.
 use mathlib.Core.Path.{_≡_, refl, sym, ap, ap₂, _∙_}
 use mathlib.Core.Bool.{Bool, true, false, cond, _&&_}
 use Prim.Native.Nat.{ℕ, zero, suc, _+_, _-_, _*_, _/_, _%_, _<_, _≤_}
-use native.Mathlib.Nat.{le-refl, lt-of-mul-lt-mul-right, mul-le-mul-right, div-add-mod', mod-lt, add-comm}
+use native.Mathlib.Nat.{le-refl, lt-of-mul-lt-mul-right, mul-le-mul-right, div-add-mod', div-le-self, mod-lt, add-comm}
 use native.Mathlib.Omega.{arith}
 use lib.Arith.{digits-div, digits-mod}
 use lib.Dec.{ltb, eqb}
@@ -12,16 +12,16 @@ use Rattle.layers.specs.declared.Shape.{Shape}
 use Rattle.layers.specs.declared.Curve.the-variants.{Linear}
 use Rattle.layers.specs.declared.Grid.{Grid}
 use Rattle.layers.specs.declared.Direction.{Direction}
-use Rattle.layers.specs.declared.Direction.the-variants.{Anchor, Across, Down}
+use Rattle.layers.specs.declared.Direction.the-variants.{Anchor, Across, Down, Between}
 use Rattle.layers.specs.Lists.{count, total}
-use Rattle.layers.specs.Sheet.{accepted, points, layers, direction, spacing, has, inLayer, layerSize}
+use Rattle.layers.specs.Sheet.{accepted, points, layers, direction, spacing, inLayer, layerSize}
 use Rattle.layers.specs.Layering.{Layering, Proper, known, layering}
 use Rattle.layers.specs.Loops.{gridFor, gridOf, steps}
 use Rattle.integers.proofs.Bools.{by}
 use Rattle.layers.proofs.Parity.{divided}
 use Rattle.layers.proofs.Lists.{count-same, count-add, count-either, count-empty, count-all}
 use Rattle.layers.proofs.Fits.{spacing-some}
-use Rattle.layers.proofs.Grids.{onGrid, member-grid}
+use Rattle.layers.proofs.Grids.{onSheet, onRow, onCol, in-grid}
 use Rattle.layers.proofs.SheetLaw.{sheet-proper}
 
 -- ---- along a line: c steps of d from b on end in the last gap before n
@@ -78,6 +78,11 @@ count-at b d c h = ends-one b d (c * d + b) _ c (count-ends b d (c * d + b) h) (
 pub step-in : (b d n c : ℕ) → b < d → c < steps b d n → c * d + b < n
 step-in b d n c h l = omega (arith, steps-ends b d n h .near, mul-le-mul-right d l)
 
+-- and there are no more of them than places
+pub steps-most : (b d n : ℕ) → steps b d n ≤ n
+unfolding steps
+steps-most b d n = by (ltb b n) (λ m. rw m (omega (arith, div-le-self (n - b - 1) d, ltb-true b n m))) (λ m. rw m (omega arith))
+
 -- ---- row by row
 module _ (t u : ℕ → Bool) (w : ℕ) where
   one-row : (a : Bool) → count (λ i. a && u i) w ≡ cond a (count u w) 0
@@ -98,23 +103,39 @@ module _ (t u : ℕ → Bool) (w : ℕ) where
       add true = omega arith
       add false = omega arith
 
--- ---- a layer, of any shape
-grid-leads : (dir : Direction) (s : ℕ) → 0 < s → (gridFor dir s .row < gridFor dir s .down) × (gridFor dir s .col < gridFor dir s .right)
-grid-leads Anchor s h = (omega arith, omega arith)
-grid-leads Across s h = (omega arith, omega arith)
-grid-leads Down s h = (omega arith, omega arith)
+  -- before place c of a row that passes: the rows before it, and its own as far as there
+  pub count-place : (r c : ℕ) → t r ≡ true → c ≤ w → count (λ p. t (p / w) && u (p % w)) (r * w + c) ≡ count t r * count u w + count u c
+  count-place r c on most =
+      let both : ℕ → Bool = λ p. t (p / w) && u (p % w) in
+      count-add both (r * w) c
+      ∙ ap₂ (λ (a b : ℕ). a + b) (count-rows r)
+      (count-same (λ i. both (r * w + i)) u c (λ i h. let l : i < w = omega arith in rw (digits-div r l, digits-mod r l, on)))
 
-pub layer-size : (sh : Shape) (k : ℕ) (g : Grid) → g ≡ gridOf (sh .levels) k
-    → layerSize sh k ≡ steps (g .row) (g .down) (sh .rows) * steps (g .col) (g .right) (sh .cols)
-unfolding layerSize inLayer
-layer-size sh k g is =
-    let s = spacing (sh .levels) k in
-    let leads = grid-leads (direction k) s (spacing-some (sh .levels) k) in
-    rw is
-    (count-same (λ p. has (sh .levels) k (p / sh .cols) (p % sh .cols)) (λ p. onGrid (gridFor (direction k) s) (p / sh .cols) (p % sh .cols)) (points sh)
-    (λ p h. member-grid (direction k) s (p / sh .cols) (p % sh .cols))
-    ∙ count-rows (λ r. eqb (r % gridFor (direction k) s .down) (gridFor (direction k) s .row)) (λ c. eqb (c % gridFor (direction k) s .right) (gridFor (direction k) s .col)) (sh .cols) (sh .rows)
-    ∙ ap₂ (λ (a b : ℕ). a * b) (count-steps (gridFor (direction k) s .row) (gridFor (direction k) s .down) (sh .rows) (leads .0)) (count-steps (gridFor (direction k) s .col) (gridFor (direction k) s .right) (sh .cols) (leads .1)))
+-- ---- a layer, of any shape
+record Leads (g : Grid) : Type 0 where
+  sheet : g .sheet < g .deep
+  row : g .row < g .down
+  col : g .col < g .right
+
+grid-leads : (k : ℕ) (dir : Direction) (s : ℕ) → 0 < s → Leads (gridFor k dir s)
+grid-leads k Anchor s h = omega arith
+grid-leads k Across s h = omega arith
+grid-leads k Down s h = omega arith
+grid-leads k Between s h = omega arith
+
+pub layer-size : (sh : Shape) (k : ℕ)
+    → (let g = gridOf sh k in layerSize sh k ≡ steps (g .sheet) (g .deep) (sh .depth) * steps (g .row) (g .down) (sh .rows) * steps (g .col) (g .right) (sh .cols))
+unfolding layerSize
+layer-size sh k =
+    let g = gridOf sh k in
+    let leads = grid-leads k (direction sh k) (spacing sh k) (spacing-some sh k) in
+    let row-on : ℕ → Bool = λ y. onSheet g (y / sh .rows) && onRow g (y % sh .rows) in
+    let sheets : count (onSheet g) (sh .depth) ≡ steps (g .sheet) (g .deep) (sh .depth) = count-steps (g .sheet) (g .deep) (sh .depth) (leads .sheet) in
+    let rows : count (onRow g) (sh .rows) ≡ steps (g .row) (g .down) (sh .rows) = count-steps (g .row) (g .down) (sh .rows) (leads .row) in
+    let cols : count (onCol g) (sh .cols) ≡ steps (g .col) (g .right) (sh .cols) = count-steps (g .col) (g .right) (sh .cols) (leads .col) in
+    count-same (inLayer sh k) (λ p. row-on (p / sh .cols) && onCol g (p % sh .cols)) (points sh) (λ p h. in-grid sh k p)
+    ∙ count-rows row-on (onCol g) (sh .cols) (sh .depth * sh .rows)
+    ∙ ap₂ (λ (a b : ℕ). a * b) (count-rows (onSheet g) (onRow g) (sh .rows) (sh .depth) ∙ ap₂ (λ (a b : ℕ). a * b) sheets rows) cols
 
 -- ---- all layers
 sizes-known : (Y : Layering) → Proper Y → (k : ℕ) → k ≤ Y .layers → total (λ j. count (Y .mem j) (Y .points)) k ≡ count (known Y k) (Y .points)
@@ -122,10 +143,10 @@ unfolding total known
 sizes-known Y ok zero h = sym (count-empty (Y .points))
 sizes-known Y ok (suc k) h =
     ap (λ (x : ℕ). x + count (Y .mem k) (Y .points)) (sizes-known Y ok k (omega arith))
-    ∙ sym (count-either (known Y k) (Y .mem k) (known Y (suc k)) (Y .points) (λ i l m. ok .fresh k i h m) (λ i l. refl))
+    ∙ sym (count-either (known Y k) (Y .mem k) (known Y (suc k)) (Y .points) (λ i l m. ok .fresh k i h l m) (λ i l. refl))
 
 pub sizes-all : (Y : Layering) → Proper Y → total (λ k. count (Y .mem k) (Y .points)) (Y .layers) ≡ Y .points
-sizes-all Y ok = sizes-known Y ok (Y .layers) (le-refl _) ∙ count-all (known Y (Y .layers)) (Y .points) (λ i l. ok .all i)
+sizes-all Y ok = sizes-known Y ok (Y .layers) (le-refl _) ∙ count-all (known Y (Y .layers)) (Y .points) (λ i l. ok .all i l)
 
 pub layers-fill : (sh : Shape) → accepted sh ≡ true → total (layerSize sh) (layers sh) ≡ points sh
 unfolding layerSize

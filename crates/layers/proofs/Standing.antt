@@ -6,7 +6,6 @@ use mathlib.Core.List.{List}
 use Prim.Native.Nat.{ℕ, suc, _+_, _*_, _<_, _≤_}
 use native.Mathlib.Nat.{le-refl, zero-div, zero-mod}
 use native.Mathlib.Omega.{arith}
-use lib.Arith.{digits-lt}
 use lib.Dec.{eqb}
 use lib.IntN.{ℤ}
 use borrow.Author.Tests.{eqb-true, eqb-false, ne-eqb}
@@ -15,12 +14,13 @@ use Rattle.integers.proofs.Near.{near-trans}
 use Rattle.layers.specs.declared.Shape.{Shape}
 use Rattle.layers.specs.declared.Curve.{Curve}
 use Rattle.layers.specs.Lists.{at}
-use Rattle.layers.specs.Sheet.{accepted, points, layers, spacing, inLayer, layerSize}
+use Rattle.layers.specs.Sheet.{accepted, points, place, layers, spacing, inLayer, layerSize}
 use Rattle.layers.specs.Prediction.{width}
 use Rattle.layers.specs.Layering.{layering, rebuilt, coefs}
 use Rattle.layers.specs.Carry.{carry, standing}
 use Rattle.integers.proofs.Bools.{by}
 use Rattle.layers.proofs.Accepting.{accepted-yes}
+use Rattle.layers.proofs.Fits.{place-in}
 use Rattle.layers.proofs.Places.{size-none}
 use Rattle.layers.proofs.SheetLaw.{sheet-proper}
 use Rattle.layers.proofs.Carry.{carried-none, carried-up, sheet-near}
@@ -48,12 +48,12 @@ module _ (sh : Shape) (curve : Curve) (own : ℕ → ℕ) where
 first-some : (sh : Shape) → accepted sh ≡ true → layerSize sh 0 ≡ 0 → ⊥
 first-some sh ok z =
     let s = accepted-yes sh ok in
-    let corner : 0 * sh .cols + 0 < points sh = digits-lt (s .tall) (s .wide) in
+    let corner : place sh 0 0 0 < points sh = place-in sh (s .thick) (s .tall) (s .wide) in
     let h : 0 < points sh = omega arith in
     true≢false (sym origin ∙ size-none sh 0 z 0 h)
   where
     origin : inLayer sh 0 0 ≡ true
-    origin = unfold inLayer in (rw (zero-div (sh .cols), zero-mod (sh .cols), zero-mod (spacing (sh .levels) 0)))
+    origin = unfold inLayer in (rw (zero-div (sh .cols), zero-mod (sh .cols), zero-div (sh .rows), zero-mod (sh .rows), zero-mod (spacing sh 0)))
 
 pub standing-first : (sh : Shape) → accepted sh ≡ true → (curve : Curve) (own : ℕ → ℕ) → standing sh curve own 1 ≡ own 0
 unfolding standing

@@ -6,13 +6,13 @@ use Rattle.integers.specs.Floor.{floorDiv, ceilDiv}
 use Rattle.layers.specs.declared.Shape.{Shape}
 use Rattle.layers.specs.declared.Curve.the-variants.{Linear, Cubic}
 use Rattle.layers.specs.Lists.{tabulate}
-use Rattle.layers.specs.Sheet.{spacing, inLayer}
+use Rattle.layers.specs.Sheet.{directions, spacing, inLayer}
 use Rattle.layers.specs.Prediction.{cubic, linear, line, predictedAt, width, coefficientOf, rebuiltFrom}
 use Rattle.layers.specs.Layering.{layering, pointBy, layerBy, valuesBy, alongside, written, coefs}
 use Rattle.layers.specs.Carry.{carried}
 
 abbrev pub benchShape : Shape
-benchShape = record { rows = 1; cols = 5; levels = 1 }
+benchShape = record { depth = 1; rows = 1; cols = 5; levels = 1 }
 
 abbrev pub benchSamples : List ℤ
 benchSamples = pos 10 ∷ pos 13 ∷ pos 11 ∷ pos 20 ∷ pos 30 ∷ []
@@ -25,12 +25,33 @@ abbrev pub benchValues : List ℤ
 benchValues = pos 9 ∷ pos 13 ∷ pos 12 ∷ pos 21 ∷ pos 30 ∷ []
 
 pub bench-coefs : coefs (layering benchShape Linear) 1 benchSamples ≡ benchCoefs
-unfolding coefs alongside valuesBy layerBy tabulate pointBy inLayer spacing predictedAt line linear coefficientOf rebuiltFrom floorDiv width
+unfolding coefs alongside valuesBy layerBy tabulate pointBy inLayer directions spacing ceilDiv predictedAt line linear coefficientOf rebuiltFrom floorDiv width
 bench-coefs = refl
 
 pub bench-written : written (layering benchShape Linear) 1 benchSamples ≡ benchValues
-unfolding written valuesBy layerBy tabulate pointBy inLayer spacing predictedAt line linear coefficientOf rebuiltFrom floorDiv width
+unfolding written valuesBy layerBy tabulate pointBy inLayer directions spacing ceilDiv predictedAt line linear coefficientOf rebuiltFrom floorDiv width
 bench-written = refl
+
+-- for request 10: a stack of three sheets of 1 by 3, one level, linear, step 1: the anchors stand at the corners, and the middle sheet is the layer between
+abbrev pub stackShape : Shape
+stackShape = record { depth = 3; rows = 1; cols = 3; levels = 1 }
+
+abbrev pub stackSamples : List ℤ
+stackSamples = pos 10 ∷ pos 13 ∷ pos 11 ∷ pos 20 ∷ pos 30 ∷ pos 40 ∷ pos 7 ∷ negsuc 4 ∷ pos 0 ∷ []
+
+abbrev pub stackCoefs : List ℤ
+stackCoefs = pos 3 ∷ pos 1 ∷ pos 4 ∷ pos 4 ∷ pos 9 ∷ pos 11 ∷ pos 2 ∷ negsuc 2 ∷ pos 0 ∷ []
+
+abbrev pub stackValues : List ℤ
+stackValues = pos 9 ∷ pos 13 ∷ pos 12 ∷ pos 19 ∷ pos 30 ∷ pos 39 ∷ pos 6 ∷ negsuc 5 ∷ pos 0 ∷ []
+
+pub stack-coefs : coefs (layering stackShape Linear) 1 stackSamples ≡ stackCoefs
+unfolding coefs alongside valuesBy layerBy tabulate pointBy inLayer directions spacing ceilDiv predictedAt line linear coefficientOf rebuiltFrom floorDiv width
+stack-coefs = refl
+
+pub stack-written : written (layering stackShape Linear) 1 stackSamples ≡ stackValues
+unfolding written valuesBy layerBy tabulate pointBy inLayer directions spacing ceilDiv predictedAt line linear coefficientOf rebuiltFrom floorDiv width
+stack-written = refl
 
 -- "Cubic of 0, -1, 0, 0 is -1": -9 / 16, rounded down
 pub cubic-down : cubic (pos 0) (negsuc 0) (pos 0) (pos 0) ≡ negsuc 0

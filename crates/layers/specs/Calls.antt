@@ -16,7 +16,7 @@ use Rattle.layers.specs.declared.Quantized.the-variants.{Done, Refused, 
 use Rattle.layers.specs.Limits.{stepMost, sampleMost}
 use Rattle.layers.specs.Sheet.{accepted, points, layers, layerSize}
 use Rattle.layers.specs.Layering.{layering, rebuilt, written, coefs}
-use Rattle.layers.specs.Loops.{linesOf}
+use Rattle.layers.specs.Loops.{linesOf, joined}
 
 -- a shape and a step that document 01 accepts
 unfoldable pub settled : Shape → ℕ → Bool
@@ -71,6 +71,9 @@ unfoldable pub sizing : Shape → ℕ → ℕ
 sizing sh k = cond (accepted sh && ltb k (layers sh)) (layerSize sh k) 0
 
 -- ---- a layer as lines; one that is not there has none
-unfoldable pub layerLines : Shape → ℕ → Lines
-layerLines sh k =
-    cond (accepted sh && ltb k (layers sh)) (linesOf sh k) (record { first = 0; lines = 0; apart = 0; points = 0; stride = 0 })
+unfoldable pub rowLines : Shape → ℕ → Lines
+rowLines sh k =
+    cond (accepted sh && ltb k (layers sh)) (linesOf sh k) (record { first = 0; sheets = 0; beyond = 0; lines = 0; apart = 0; points = 0; stride = 0 })
+
+abbrev pub layerLines : Shape → ℕ → Lines
+layerLines sh k = joined (rowLines sh k)

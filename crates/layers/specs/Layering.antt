@@ -85,6 +85,6 @@ Carries Y k R R′ =
 
 -- every point stands in exactly one layer, and is predicted from the layers before it alone
 pub record Proper (Y : Layering) : Type 0 where
-  pub all : (p : ℕ) → known Y (Y .layers) p ≡ true
-  pub fresh : (k p : ℕ) → k < Y .layers → known Y k p ≡ true → Y .mem k p ≡ false
+  pub all : (p : ℕ) → p < Y .points → known Y (Y .layers) p ≡ true
+  pub fresh : (k p : ℕ) → k < Y .layers → p < Y .points → known Y k p ≡ true → Y .mem k p ≡ false
   pub local : (k : ℕ) → k < Y .layers → Carries Y k _≡_ _≡_

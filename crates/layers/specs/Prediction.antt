@@ -9,9 +9,9 @@ use Rattle.layers.specs.declared.Shape.{Shape}
 use Rattle.layers.specs.declared.Curve.{Curve}
 use Rattle.layers.specs.declared.Curve.the-variants.{Linear, Cubic}
 use Rattle.layers.specs.declared.Direction.{Direction}
-use Rattle.layers.specs.declared.Direction.the-variants.{Anchor, Across, Down}
+use Rattle.layers.specs.declared.Direction.the-variants.{Anchor, Across, Down, Between}
 use Rattle.layers.specs.Lists.{at}
-use Rattle.layers.specs.Sheet.{direction, spacing}
+use Rattle.layers.specs.Sheet.{place, direction, spacing, along}
 
 -- "(-a + 9b + 9c - d) / 16, rounded towards minus infinity"
 unfoldable pub cubic : ℤ → ℤ → ℤ → ℤ → ℤ
@@ -41,15 +41,18 @@ line curve vs start stride n t s =
     (cubic (on vs start stride (t - 3 * s)) (on vs start stride (t - s)) (on vs start stride (t + s)) (on vs start stride (t + 3 * s)))
     (cond (ltb (t + s) n) (linear (on vs start stride (t - s)) (on vs start stride (t + s))) (on vs start stride (t - s)))
 
--- "An anchor is predicted as 0. Any other point looks along its line": its row for a layer across, its column for a layer down
-abbrev pub predicted : Shape → Curve → Direction → ℕ → List ℤ → ℕ → ℕ → ℤ
-predicted sh curve Anchor s vs r c = pos 0
-predicted sh curve Across s vs r c = line curve vs (r * sh .cols) 1 (sh .cols) c s
-predicted sh curve Down s vs r c = line curve vs c (sh .cols) (sh .rows) r s
+-- "An anchor is predicted as 0. Any other point looks along its line": its row for a layer across, its column for a layer down; a layer between
+-- looks from sheet to sheet (request 10)
+abbrev pub predicted : Shape → Curve → Direction → ℕ → List ℤ → ℕ → ℕ → ℕ → ℤ
+predicted sh curve Anchor s vs z r c = pos 0
+predicted sh curve Across s vs z r c = line curve vs (place sh z r 0) 1 (along sh Across) c s
+predicted sh curve Down s vs z r c = line curve vs (place sh z 0 c) (sh .cols) (along sh Down) r s
+predicted sh curve Between s vs z r c = line curve vs (place sh 0 r c) (sh .rows * sh .cols) (along sh Between) z s
 
 -- what is predicted at the point p of layer k
 unfoldable pub predictedAt : Shape → Curve → ℕ → List ℤ → ℕ → ℤ
-predictedAt sh curve k vs p = predicted sh curve (direction k) (spacing (sh .levels) k) vs (p / sh .cols) (p % sh .cols)
+predictedAt sh curve k vs p =
+    predicted sh curve (direction sh k) (spacing sh k) vs (p / sh .cols / sh .rows) (p / sh .cols % sh .rows) (p % sh .cols)
 
 -- "Let w = 2e + 1"
 unfoldable pub width : ℕ → ℕ

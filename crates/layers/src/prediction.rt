@@ -1,5 +1,6 @@
-// Prediction along a line, by one rule for both directions, and the value that a coefficient gives.
+// Prediction along a line, by one rule for all directions, and the value that a coefficient gives.
 ghost use mathlib.Core.Path.{_≡_};
+ghost use mathlib.Core.Bool.{true};
 ghost use Prim.Native.Nat.{_+_, _-_, _*_, _^_, _<_, _≤_};
 ghost use lib.ListN.{length};
 ghost use Rattle.integers.specs.Distance.{Within};
@@ -7,11 +8,10 @@ ghost use Rattle.layers.specs.Limits.{pointsMost, levelsMost, stepMost};
 ghost use Rattle.layers.specs.Sheet as S;
 ghost use Rattle.layers.specs.Prediction as P;
 ghost use Rattle.layers.specs.Loops as L;
+use crate::Crossing;
 use crate::Curve;
 use crate::Direction;
 use crate::Shape;
-use crate::sheet::direction_of;
-use crate::sheet::spacing;
 
 // "a line is the lent sheet with a first point, a spacing and a count" (document 01). Its spacing is called its stride, since a layer has a
 // spacing too.
@@ -114,7 +114,7 @@ fn along<'a>(line: Line<'a>, curve: Curve, t: usize, s: usize) -> i64
 }
 
 // The same with plain parameters, so that callers hold no line themselves.
-fn predict_along(
+pub(crate) fn predict_along(
     values: &[i64],
     curve: Curve,
     start: usize,
@@ -139,26 +139,39 @@ fn predict_along(
     )
 }
 
-// What is predicted at a point of a layer.
-pub(crate) fn predict(
-    values: &[i64],
-    shape: Shape,
-    curve: Curve,
-    layer: usize,
-    row: usize,
-    col: usize,
-) -> i64
-    requires { ⌜ L.AtPoint shape layer row col × (length (now values) ≡ S.points shape) × L.Below L.valueMost shape curve layer (now values) ⌝ }
-    ensures { λ y. ⌜ y ≡ P.predicted shape curve (S.direction layer) (S.spacing (shape .levels) layer) (now (values .entry)) row col ⌝ }
+// The columns that cross row `row` of a sheet.
+fn columns(shape: Shape, sheet: usize, row: usize) -> Crossing
+    requires { ⌜ (S.accepted shape ≡ true) × (sheet < shape .depth) × (row < shape .rows) ⌝ }
+    ensures { λ x. ⌜ x ≡ L.columns shape sheet row ⌝ }
 {
     let rows = shape.rows;
     let cols = shape.cols;
-    let dir = direction_of(layer);
-    let s = spacing(shape.levels, layer);
-    match dir {
-        Direction::Anchor => 0,
-        Direction::Across => predict_along(values, curve, row * cols, 1, cols, col, s),
-        Direction::Down => predict_along(values, curve, col, cols, rows, row, s),
+    Crossing {
+        start: sheet * rows * cols,
+        stride: cols,
+        count: rows,
+        place: row,
+    }
+}
+
+// The lines that cross row `row` of a sheet: its columns, or those from sheet to sheet in a layer between (request 10).
+pub(crate) fn crossing(shape: Shape, direction: Direction, sheet: usize, row: usize) -> Crossing
+    requires { ⌜ (S.accepted shape ≡ true) × (sheet < shape .depth) × (row < shape .rows) ⌝ }
+    ensures { λ x. ⌜ x ≡ L.crossingOf shape direction sheet row ⌝ }
+{
+    let depth = shape.depth;
+    let rows = shape.rows;
+    let cols = shape.cols;
+    match direction {
+        Direction::Anchor => columns(shape, sheet, row),
+        Direction::Across => columns(shape, sheet, row),
+        Direction::Down => columns(shape, sheet, row),
+        Direction::Between => Crossing {
+            start: row * cols,
+            stride: rows * cols,
+            count: depth,
+            place: sheet,
+        },
     }
 }
 

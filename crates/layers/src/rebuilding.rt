@@ -1,23 +1,115 @@
-// Coefficients to values, layer by layer, in place.
+// Coefficients to values, layer by layer, in place. Where a row starts is worked out inside its loop, since the proof of a loop can speak only of
+// what the loop reads; the compiler takes it out.
 ghost use mathlib.Core.Path.{_≡_};
 ghost use mathlib.Core.Bool.{true};
-ghost use Prim.Native.Nat.{ℕ, _*_, _^_, _<_, _≤_};
+ghost use Prim.Native.Nat.{ℕ, _+_, _*_, _^_, _<_, _≤_};
 ghost use lib.ListN.{length};
 ghost use Rattle.integers.specs.Distance.{Within};
 ghost use Rattle.layers.specs.Limits.{stepMost};
 ghost use Rattle.layers.specs.Lists.{at};
+ghost use Rattle.layers.specs.declared.Curve as D;
+ghost use Rattle.layers.specs.declared.Direction.the-variants.{Anchor, Across};
 ghost use Rattle.layers.specs.Sheet as S;
 ghost use Rattle.layers.specs.Layering as Y;
 ghost use Rattle.layers.specs.Calls as C;
 ghost use Rattle.layers.specs.Loops as L;
 use crate::Curve;
+use crate::Direction;
 use crate::Grid;
 use crate::Shape;
-use crate::prediction::predict;
+use crate::prediction::crossing;
+use crate::prediction::predict_along;
 use crate::prediction::value;
 use crate::sheet::grid_of;
+use crate::sheet::laid;
 use crate::sheet::layer_count;
 use crate::sheet::settled;
+
+// One row of anchors, in place: they are predicted as 0.
+fn rebuild_anchors(
+    coefficients: &[i32],
+    shape: Shape,
+    step: u64,
+    g: Grid,
+    sheet: usize,
+    row: usize,
+    values: &mut [i64],
+)
+    requires { ⌜ L.AtRow shape (g .layer) g sheet row × (step ≤ stepMost) × (g .direction ≡ Anchor) ⌝ }
+    requires { ⌜ (length (now coefficients) ≡ S.points shape) × (length (now values) ≡ S.points shape) ⌝ }
+    ensures { λ _. ⌜ ((curve : D.Curve) → now (values .exit) ≡ L.partBy shape curve (g .layer) (L.inRow shape (sheet * shape .rows + row)) (Y.reads step (now (coefficients .entry))) (now (values .entry)) (now (values .entry))) ⌝ }
+{
+    let cols = shape.cols;
+    let mut col = g.col;
+    while col < cols {
+        let rows = shape.rows;
+        let start = (sheet * rows + row) * cols;
+        let p = start + col;
+        let v = value(0, coefficients[p], step);
+        values[p] = v;
+        col += g.right;
+    }
+}
+
+// One row of a layer across, in place: the row itself is the line of its points.
+fn rebuild_along(
+    coefficients: &[i32],
+    shape: Shape,
+    curve: Curve,
+    step: u64,
+    g: Grid,
+    sheet: usize,
+    row: usize,
+    values: &mut [i64],
+)
+    requires { ⌜ L.AtRow shape (g .layer) g sheet row × (step ≤ stepMost) × (g .direction ≡ Across) ⌝ }
+    requires { ⌜ (length (now coefficients) ≡ S.points shape) × (length (now values) ≡ S.points shape) × L.Below L.valueMost shape curve (g .layer) (now values) ⌝ }
+    ensures { λ _. ⌜ now (values .exit) ≡ L.partBy shape curve (g .layer) (L.inRow shape (sheet * shape .rows + row)) (Y.reads step (now (coefficients .entry))) (now (values .entry)) (now (values .entry)) ⌝ }
+{
+    let cols = shape.cols;
+    let s = g.spacing;
+    let mut col = g.col;
+    while col < cols {
+        let rows = shape.rows;
+        let start = (sheet * rows + row) * cols;
+        let p = start + col;
+        let y = predict_along(values, curve, start, 1, cols, col, s);
+        let v = value(y, coefficients[p], step);
+        values[p] = v;
+        col += g.right;
+    }
+}
+
+// One row of a layer down or between, in place: a line crosses it at each of its points.
+fn rebuild_crossed(
+    coefficients: &[i32],
+    shape: Shape,
+    curve: Curve,
+    step: u64,
+    g: Grid,
+    sheet: usize,
+    row: usize,
+    values: &mut [i64],
+)
+    requires { ⌜ L.AtRow shape (g .layer) g sheet row × (step ≤ stepMost) × (L.crosses (g .direction) ≡ true) ⌝ }
+    requires { ⌜ (length (now coefficients) ≡ S.points shape) × (length (now values) ≡ S.points shape) × L.Below L.valueMost shape curve (g .layer) (now values) ⌝ }
+    ensures { λ _. ⌜ now (values .exit) ≡ L.partBy shape curve (g .layer) (L.inRow shape (sheet * shape .rows + row)) (Y.reads step (now (coefficients .entry))) (now (values .entry)) (now (values .entry)) ⌝ }
+{
+    let cols = shape.cols;
+    let s = g.spacing;
+    let dir = g.direction;
+    let x = crossing(shape, dir, sheet, row);
+    let mut col = g.col;
+    while col < cols {
+        let rows = shape.rows;
+        let start = (sheet * rows + row) * cols;
+        let p = start + col;
+        let y = predict_along(values, curve, x.start + col, x.stride, x.count, x.place, s);
+        let v = value(y, coefficients[p], step);
+        values[p] = v;
+        col += g.right;
+    }
+}
 
 // One row of a layer's values, in place; g is the layer's grid.
 fn rebuild_row(
@@ -25,23 +117,52 @@ fn rebuild_row(
     shape: Shape,
     curve: Curve,
     step: u64,
-    layer: usize,
     g: Grid,
+    sheet: usize,
     row: usize,
     values: &mut [i64],
 )
-    requires { ⌜ L.AtRow shape layer g row × (step ≤ stepMost) ⌝ }
-    requires { ⌜ (length (now coefficients) ≡ S.points shape) × (length (now values) ≡ S.points shape) × L.Below L.valueMost shape curve layer (now values) ⌝ }
-    ensures { λ _. ⌜ now (values .exit) ≡ L.rowBy shape curve layer row (Y.reads step (now (coefficients .entry))) (now (values .entry)) (now (values .entry)) ⌝ }
+    requires { ⌜ L.AtRow shape (g .layer) g sheet row × (step ≤ stepMost) ⌝ }
+    requires { ⌜ (length (now coefficients) ≡ S.points shape) × (length (now values) ≡ S.points shape) × L.Below L.valueMost shape curve (g .layer) (now values) ⌝ }
+    ensures { λ _. ⌜ now (values .exit) ≡ L.partBy shape curve (g .layer) (L.inRow shape (sheet * shape .rows + row)) (Y.reads step (now (coefficients .entry))) (now (values .entry)) (now (values .entry)) ⌝ }
 {
-    let cols = shape.cols;
-    let mut col = g.col;
-    while col < cols {
-        let p = row * cols + col;
-        let y = predict(values, shape, curve, layer, row, col);
-        let v = value(y, coefficients[p], step);
-        values[p] = v;
-        col += g.right;
+    let dir = g.direction;
+    match dir {
+        Direction::Anchor => rebuild_anchors(coefficients, shape, step, g, sheet, row, values),
+        Direction::Across => rebuild_along(coefficients, shape, curve, step, g, sheet, row, values),
+        Direction::Down => rebuild_crossed(coefficients, shape, curve, step, g, sheet, row, values),
+        Direction::Between => rebuild_crossed(
+            coefficients,
+            shape,
+            curve,
+            step,
+            g,
+            sheet,
+            row,
+            values,
+        ),
+    }
+}
+
+// One sheet of a layer's values, in place.
+fn rebuild_sheet(
+    coefficients: &[i32],
+    shape: Shape,
+    curve: Curve,
+    step: u64,
+    g: Grid,
+    sheet: usize,
+    values: &mut [i64],
+)
+    requires { ⌜ L.AtSheet shape (g .layer) g sheet × (step ≤ stepMost) ⌝ }
+    requires { ⌜ (length (now coefficients) ≡ S.points shape) × (length (now values) ≡ S.points shape) × L.Below L.valueMost shape curve (g .layer) (now values) ⌝ }
+    ensures { λ _. ⌜ now (values .exit) ≡ L.partBy shape curve (g .layer) (L.inSheet shape sheet) (Y.reads step (now (coefficients .entry))) (now (values .entry)) (now (values .entry)) ⌝ }
+{
+    let rows = shape.rows;
+    let mut row = g.row;
+    while row < rows {
+        rebuild_row(coefficients, shape, curve, step, g, sheet, row, values);
+        row += g.down;
     }
 }
 
@@ -54,16 +175,16 @@ fn rebuild_layer(
     layer: usize,
     values: &mut [i64],
 )
-    requires { ⌜ (S.accepted shape ≡ true) × (step ≤ stepMost) × (layer ≤ 2 * shape .levels) ⌝ }
+    requires { ⌜ (S.accepted shape ≡ true) × (step ≤ stepMost) × (layer < S.layers shape) ⌝ }
     requires { ⌜ (length (now coefficients) ≡ S.points shape) × (length (now values) ≡ S.points shape) × L.Below L.valueMost shape curve layer (now values) ⌝ }
     ensures { λ _. ⌜ now (values .exit) ≡ Y.layerBy (Y.layering shape curve) layer (Y.reads step (now (coefficients .entry))) (now (values .entry)) (now (values .entry)) ⌝ }
 {
-    let rows = shape.rows;
-    let g = grid_of(shape.levels, layer);
-    let mut row = g.row;
-    while row < rows {
-        rebuild_row(coefficients, shape, curve, step, layer, g, row, values);
-        row += g.down;
+    let depth = shape.depth;
+    let g = grid_of(shape, layer);
+    let mut sheet = g.sheet;
+    while sheet < depth {
+        rebuild_sheet(coefficients, shape, curve, step, g, sheet, values);
+        sheet += g.deep;
     }
 }
 
@@ -102,15 +223,16 @@ pub fn rebuild(
     if !settled(shape, step) {
         return false;
     }
+    let depth = shape.depth;
     let rows = shape.rows;
     let cols = shape.cols;
-    let points = rows * cols;
+    let points = depth * rows * cols;
     if coefficients.len() != points {
         return false;
     }
     if values.len() != points {
         return false;
     }
-    rebuild_layers(coefficients, shape, curve, step, values);
+    rebuild_layers(coefficients, laid(shape), curve, step, values);
     true
 }

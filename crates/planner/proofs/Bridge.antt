@@ -17,7 +17,7 @@ use Rattle.header.specs.declared.Header.{Header}
 use Rattle.header.specs.Header.{planesOf, cellsOf}
 use Rattle.header.specs.Figure.{ownLoss, figureOf}
 use Rattle.header.proofs.Cells.{size-there, size-past, cells-there, cells-past}
-use Rattle.header.proofs.Figures.{standing-most}
+use Rattle.header.proofs.Figures.{standing-small, standing-most}
 use Rattle.header.proofs.Rightness.{Right, layers-few, counts-past, counts-empty}
 use Rattle.header.proofs.Totals.{total-same, total-past}
 use Rattle.planner.specs.Planning.{counts, cellsIn}
@@ -80,4 +80,4 @@ module _ {h : Header} (r : Right h) where
 
     -- far below
     pub below-none : standing (layersOf h) n layersMost < none
-    below-none = omega (arith, all-stands, standing-most r n (layers (h .shape)) (le-refl _))
+    below-none = omega (arith, all-stands, standing-most r n (layers (h .shape)) (le-refl _), standing-small)

@@ -7,12 +7,13 @@ use lib.IntN.{ℤ}
 use lib.ListN.{length, replicate}
 use Rattle.layers.specs.declared.Curve.the-variants.{Linear, Cubic}
 use Rattle.layers.specs.Limits.{layersMost}
+use Rattle.layers.specs.Sheet.{sheetOf}
 use Rattle.header.specs.declared.Details.{Details}
 use Rattle.header.specs.declared.Plan.{Plan}
 use Rattle.header.specs.Refusals.{refusal}
 use Rattle.header.specs.Plan.{noPlan}
 use Rattle.header.specs.Figure.{Bounding, bounding}
-use Rattle.card.specs.Writing.{Writing, writing, badSizes, shapeOf}
+use Rattle.card.specs.Writing.{Writing, writing, badSizes}
 use Rattle.card.specs.Writing as W
 use Rattle.card.specs.Reading.{Reading, reading, showing}
 use Rattle.card.specs.Refining.{refining}
@@ -70,9 +71,9 @@ module _ (xs : List ℤ) (rows cols levels curve step : ℕ) (qs vs : List ℤ) 
   -- "curve is 0 for linear and 1 for cubic; any other number is refusal 2", so that refusal 1 still comes first
   unfoldable pub writingBy : Writing
   writingBy =
-      cond (eqb curve 0) (writing xs (shapeOf rows cols levels) Linear step qs vs out)
-      (cond (eqb curve 1) (writing xs (shapeOf rows cols levels) Cubic step qs vs out)
-      (W.no xs (shapeOf rows cols levels) Linear step qs vs out (cond (badSizes rows cols) (refusal 1 0 0) (refusal 2 0 0))))
+      cond (eqb curve 0) (writing xs (sheetOf rows cols levels) Linear step qs vs out)
+      (cond (eqb curve 1) (writing xs (sheetOf rows cols levels) Cubic step qs vs out)
+      (W.no xs (sheetOf rows cols levels) Linear step qs vs out (cond (badSizes rows cols) (refusal 1 0 0) (refusal 2 0 0))))
 
   unfoldable pub writeCall : List ℕ → AfterWriting
   writeCall answer =

@@ -16,7 +16,7 @@ use layers::MOST_LAYERS;
 fn no_curve(rows: usize, cols: usize) -> Refusal
     ensures { λ r. ⌜ detailsOf r ≡ cond (W.badSizes rows cols) (refusal 1 0 0) (refusal 2 0 0) ⌝ }
 {
-    if layers::sized(rows, cols) {
+    if layers::sized(1, rows, cols) {
         return Refusal::BadSettings;
     }
     Refusal::BadSize

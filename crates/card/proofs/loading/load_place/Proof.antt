@@ -10,10 +10,10 @@ use lib.Dec.{ltb}
 use lib.ListN.{length, getD}
 use denote.Ref.{now}
 use Rattle.layers.specs.declared.Shape.{Shape}
-use Rattle.layers.specs.Limits.{levelsMost, layersMost}
+use Rattle.layers.specs.Limits.{layersMost}
 use Rattle.layers.specs.Calls.{sizing}
 use Rattle.layers.specs.Sheet.{layers, layerSize}
-use Rattle.layers.proofs.Accepting.{accepted-yes, count-is}
+use Rattle.layers.proofs.Accepting.{count-is}
 use Rattle.layers.proofs.Lists.{getD-tabulate}
 use Rattle.header.specs.declared.Header.{Header}
 use Rattle.header.specs.Header.{placesMost, cellBytes, cellPoints, cellsMost, planesOf, planeCells, cellsAt, planeCellsMost}
@@ -21,7 +21,7 @@ use Rattle.header.specs.Plan.{loads}
 use Rattle.header.specs.CardOrder.{cellsBefore}
 use Rattle.header.proofs.Total.{plane-room, plane-most}
 use Rattle.header.proofs.Cells.{size-there, cells-there}
-use Rattle.header.proofs.Rightness.{Right, right-yes}
+use Rattle.header.proofs.Rightness.{Right, right-yes, layers-few}
 use Rattle.card.specs.Reading.{badSlot}
 use Rattle.card.specs.Words.{wordsMost, blockStart, asked, slotWords, slotNo, Partly, FineBefore}
 use Rattle.card.proofs.Blocks.{block-none, block-next, block-room}
@@ -59,9 +59,6 @@ place l = S l .args .at + cellBytes * cellsBefore (H (S l)) (l .loop .k) (S l .a
 right : (s : tie.Start Inv-loop μ-loop) → Right (H s)
 right s = right-yes (H s) (s .pre .0 .0)
 
-shallow : (s : tie.Start Inv-loop μ-loop) → sh s .levels ≤ levelsMost
-shallow s = accepted-yes (sh s) (right s .shape) .shallow
-
 few : (s : tie.Start Inv-loop μ-loop) (j : ℕ) → j < layers (sh s) → planesOf (H s) j ≤ placesMost
 few s = few-planes (right s)
 
@@ -83,7 +80,7 @@ module _ (i : tie.In-loop Inv-loop μ-loop) where
   below = omega (arith, i .loop-test .taken, count l)
 
   a-layer : k < layersMost
-  a-layer = omega (arith, below, shallow s)
+  a-layer = omega (arith, below, layers-few (right s))
 
   size-is : getD (s .args .t5) k 0 ≡ layerSize (sh s) k
   size-is = ap (λ ns. getD ns k 0) (s .pre .1 .0 .0) ∙ getD-tabulate layersMost (sizing (sh s)) k 0 a-layer ∙ size-there (sh s) (right s .shape) k below

@@ -7,9 +7,9 @@ use lib.ListN.{length, getD}
 use lib.Seq.{length-sets}
 use denote.Ref.{now}
 use borrow.Author.Needs.{needs}
-use Rattle.layers.specs.Limits.{levelsMost}
+use Rattle.layers.specs.Limits.{layersMost}
 use Rattle.layers.specs.Sheet.{layers}
-use Rattle.layers.proofs.Accepting.{accepted-yes, count-is}
+use Rattle.layers.proofs.Accepting.{accepted-yes, layers-few, count-is}
 use Rattle.header.specs.Header.{cellPoints, planeCells}
 use Rattle.header.proofs.Cells.{cells-there}
 use Rattle.card.specs.Words.{wordsMost, blockStart, flatPlace}
@@ -34,8 +34,8 @@ count l = l .before .layer-count .ensures ∙ count-is (S l .args .shape) (S l .
 below : (i : tie.In-loop Inv-loop μ-loop) → i .before .loop .k < layers (S (i .before) .args .shape)
 below i = omega (arith, i .loop-test .taken, count (i .before))
 
-shallow : (s : tie.Start Inv-loop μ-loop) → s .args .shape .levels ≤ levelsMost
-shallow s = accepted-yes (s .args .shape) (s .pre .0 .0) .shallow
+few : (s : tie.Start Inv-loop μ-loop) → layers (s .args .shape) ≤ layersMost
+few s = layers-few (s .args .shape) (accepted-yes (s .args .shape) (s .pre .0 .0))
 
 -- layer k's cells, and the words up to its end
 cells-is : (a : tie.After-plane-cells Inv-loop μ-loop) → a .plane-cells .result ≡ planeCells (S (a .before .before) .args .shape) (a .before .before .loop .k)
@@ -61,10 +61,10 @@ plane-cells-requires : tie.Need-plane-cells-requires Inv-loop μ-loop
 plane-cells-requires c κs = search needs
 
 mul-if1 : tie.Need-mul-if1 Inv-loop μ-loop
-mul-if1 c = omega (arith, below (c .before), shallow (S (c .before .before)))
+mul-if1 c = omega (arith, below (c .before), few (S (c .before .before)))
 
 array-read-if1 : tie.Need-array-read-if1 Inv-loop μ-loop
-array-read-if1 c = omega (arith, below (c .before), shallow (S (c .before .before)))
+array-read-if1 c = omega (arith, below (c .before), few (S (c .before .before)))
 
 put-plane-requires : tie.Need-put-plane-requires Inv-loop μ-loop
 put-plane-requires c κs = let a = c .before .before in
@@ -85,7 +85,7 @@ add-start : tie.Need-add-start Inv-loop μ-loop
 add-start c = omega (arith, words-room (c .before))
 
 add-k : tie.Need-add-k Inv-loop μ-loop
-add-k c = omega (arith, below (c .before .before), shallow (S (c .before .before .before)))
+add-k c = omega (arith, below (c .before .before), few (S (c .before .before .before)))
 
 loop-less : tie.Need-loop-less Inv-loop μ-loop
 loop-less c = omega arith

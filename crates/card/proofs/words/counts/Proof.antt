@@ -7,8 +7,9 @@ use native.Mathlib.Omega.{arith}
 use denote.Ref.{now}
 use borrow.Author.Needs.{needs}
 use Rattle.layers.specs.declared.Shape.{Shape}
+use Rattle.layers.specs.Limits.{layersMost}
 use Rattle.layers.specs.Sheet.{accepted, layers, layerSize}
-use Rattle.layers.proofs.Accepting.{Sheet, accepted-yes, count-is}
+use Rattle.layers.proofs.Accepting.{accepted-yes, layers-few, count-is}
 use Rattle.header.specs.Header.{cellPoints}
 use Rattle.header.proofs.Cells.{size-there, cells-there}
 use Rattle.card.specs.Words.{blockStart, wordsMost, countOf}
@@ -38,8 +39,8 @@ Ws l = now (S l .args .words)
 yes : (l : L) → accepted (Sh l) ≡ true
 yes l = S l .pre .0
 
-sheet : (l : L) → Sheet (Sh l)
-sheet l = accepted-yes (Sh l) (yes l)
+few : (l : L) → layers (Sh l) ≤ layersMost
+few l = layers-few (Sh l) (accepted-yes (Sh l) (yes l))
 
 count : (l : L) → l .before .layer-count .result ≡ layers (Sh l)
 count l = l .before .layer-count .ensures ∙ count-is (Sh l) (yes l)
@@ -72,12 +73,12 @@ count-of-requires c κs =
 mul-planes : tie.Need-mul-planes Inv-loop μ-loop
 mul-planes c =
     let i = c .before .before in
-    omega (arith, below i, sheet (i .before) .shallow)
+    omega (arith, below i, few (i .before))
 
 array-write-planes : tie.Need-array-write-planes Inv-loop μ-loop
 array-write-planes c =
     let i = c .before .before in
-    omega (arith, below i, sheet (i .before) .shallow, i .before .loop .inv .2 .long)
+    omega (arith, below i, few (i .before), i .before .loop .inv .2 .long)
 
 plane-cells-requires : tie.Need-plane-cells-requires Inv-loop μ-loop
 plane-cells-requires c κs = search needs
@@ -106,7 +107,7 @@ add-start : tie.Need-add-start Inv-loop μ-loop
 add-start c = omega (arith, cells c .1)
 
 add-k : tie.Need-add-k Inv-loop μ-loop
-add-k c = omega (arith, below (In c), sheet (Lp c) .shallow)
+add-k c = omega (arith, below (In c), few (Lp c))
 
 loop-less : tie.Need-loop-less Inv-loop μ-loop
 loop-less c = omega (arith, In c .loop-test .taken)
@@ -117,7 +118,7 @@ loop-again c =
     let k = l .loop .k in
     let h = below (In c) in
     let v = c .before .count-of .ensures ∙ ap₂ (countOf (Ws l)) (l .loop .inv .1) (size-is (c .before .before)) in
-    (omega (arith, In c .loop-test .taken), cells c .0, counted-more (Sh l) (Ws l) k _ (l .loop .planes) h (omega (arith, h, sheet l .shallow)) v (l .loop .inv .2))
+    (omega (arith, In c .loop-test .taken), cells c .0, counted-more (Sh l) (Ws l) k _ (l .loop .planes) h (omega (arith, h, few l)) v (l .loop .inv .2))
 
 returns : tie.Need-returns Inv-loop μ-loop
 returns c =

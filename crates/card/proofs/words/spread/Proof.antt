@@ -7,8 +7,9 @@ use native.Mathlib.Omega.{arith}
 use denote.Ref.{now}
 use borrow.Author.Needs.{needs}
 use Rattle.layers.specs.declared.Shape.{Shape}
+use Rattle.layers.specs.Limits.{layersMost}
 use Rattle.layers.specs.Sheet.{accepted, layers}
-use Rattle.layers.proofs.Accepting.{Sheet, accepted-yes, count-is}
+use Rattle.layers.proofs.Accepting.{accepted-yes, layers-few, count-is}
 use Rattle.header.specs.Header.{cellPoints}
 use Rattle.header.proofs.Cells.{cells-there}
 use Rattle.card.specs.Words.{blockStart, wordsMost, spreadOver}
@@ -38,8 +39,8 @@ Ws l = now (S l .args .words)
 yes : (l : L) → accepted (Sh l) ≡ true
 yes l = S l .pre .0
 
-sheet : (l : L) → Sheet (Sh l)
-sheet l = accepted-yes (Sh l) (yes l)
+few : (l : L) → layers (Sh l) ≤ layersMost
+few l = layers-few (Sh l) (accepted-yes (Sh l) (yes l))
 
 count : (l : L) → l .before .layer-count .result ≡ layers (Sh l)
 count l = l .before .layer-count .ensures ∙ count-is (Sh l) (yes l)
@@ -91,7 +92,7 @@ add-start : tie.Need-add-start Inv-loop μ-loop
 add-start c = omega (arith, cells c .1)
 
 add-k : tie.Need-add-k Inv-loop μ-loop
-add-k c = omega (arith, below (In c), sheet (Lp c) .shallow)
+add-k c = omega (arith, below (In c), few (Lp c))
 
 loop-less : tie.Need-loop-less Inv-loop μ-loop
 loop-less c = omega (arith, In c .loop-test .taken)

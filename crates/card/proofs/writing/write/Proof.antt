@@ -1,6 +1,6 @@
 -- By the tests in turn, each of which is one of the definition's. After them quantizing is not refused; what it answers is what writing answers, and where it is done its coefficients are within 23 digits, so that their card is written.
 use mathlib.Core.Logic.{⊎-elim}
-use mathlib.Core.Path.{_≡_, sym, ap, _∙_}
+use mathlib.Core.Path.{_≡_, refl, sym, ap, _∙_}
 use mathlib.Core.Bool.{true, false, not}
 use mathlib.Core.List.{List}
 use Prim.Native.Nat.{ℕ, _*_, _≤_}
@@ -13,10 +13,11 @@ use borrow.Author.Tests.{not-true, not-false, eqb-true, eqb-false, ltb-true, ltb
 use denote.Ref.{now}
 use Rattle.layers.specs.declared.Shape.{Shape}
 use Rattle.layers.specs.Limits.{levelsMost, stepMost}
-use Rattle.layers.specs.Sheet.{sized}
+use Rattle.layers.specs.Sheet.{sized, accepted, sheetOf, points}
 use Rattle.layers.proofs.Accepting.{sized-yes}
+use Rattle.layers.proofs.Flat.{flat-points}
 use Rattle.card.specs.Words.{wordsMost}
-use Rattle.card.specs.Writing.{outputLeast, badSizes, shapeOf}
+use Rattle.card.specs.Writing.{outputLeast, badSizes}
 use Rattle.card.proofs.BadSizes.{bad-sizes}
 use Rattle.card.proofs.Writes as W
 use Rattle.card.proofs.writing.write.Statement.{statement}
@@ -27,7 +28,7 @@ abbrev Xs : tie.Start → List ℤ
 Xs a = now (a .args .samples)
 
 abbrev Sh : tie.Start → Shape
-Sh a = shapeOf (a .args .rows) (a .args .cols) (a .args .levels)
+Sh a = sheetOf (a .args .rows) (a .args .cols) (a .args .levels)
 
 abbrev Qs : tie.Start → List ℤ
 Qs a = now (a .args .coefficients)
@@ -38,11 +39,15 @@ Vs a = now (a .args .values)
 abbrev Out : tie.Start → List ℕ
 Out a = now (a .args .output)
 
+-- a sheet by itself has rows times cols points
+long : (a : tie.Start) → points (Sh a) ≡ a .args .rows * a .args .cols
+long a = flat-points (Sh a) refl
+
 -- what the tests leave
 abbrev A1 : tie.Else1 → tie.Start
 A1 d = d .before .before .before
 
-good-size : (d : tie.Else1) → sized (A1 d .args .rows) (A1 d .args .cols) ≡ true
+good-size : (d : tie.Else1) → sized 1 (A1 d .args .rows) (A1 d .args .cols) ≡ true
 good-size d = sym (d .before .sized .ensures) ∙ not-false _ (d .if1 .left)
 
 sizes : (d : tie.Else1) → badSizes (A1 d .args .rows) (A1 d .args .cols) ≡ false
@@ -60,26 +65,36 @@ step-few d = omega (arith, ltb-false, d .if3 .left)
 abbrev A5 : tie.Else5 → tie.Start
 A5 d = A3 (d .before .before)
 
-samples-long : (d : tie.Else5) → length (Xs (A5 d)) ≡ A5 d .args .rows * A5 d .args .cols
-samples-long d = d .before .if4 .left
+samples-long : (d : tie.Else5) → length (Xs (A5 d)) ≡ points (Sh (A5 d))
+samples-long d = d .before .if4 .left ∙ sym (long (A5 d))
 
-coefficients-long : (d : tie.Else5) → length (Qs (A5 d)) ≡ A5 d .args .rows * A5 d .args .cols
-coefficients-long d = eqb-true _ _ (not-false _ (d .if5 .left))
+coefficients-long : (d : tie.Else5) → length (Qs (A5 d)) ≡ points (Sh (A5 d))
+coefficients-long d = eqb-true _ _ (not-false _ (d .if5 .left)) ∙ sym (long (A5 d))
 
 abbrev A7 : tie.Else7 → tie.Start
 A7 d = A5 (d .before .before)
 
-values-long : (d : tie.Else7) → length (Vs (A7 d)) ≡ A7 d .args .rows * A7 d .args .cols
-values-long d = d .before .if6 .left
+values-long : (d : tie.Else7) → length (Vs (A7 d)) ≡ points (Sh (A7 d))
+values-long d = d .before .if6 .left ∙ sym (long (A7 d))
 
 output-long : (d : tie.Else7) → outputLeast ≤ length (Out (A7 d))
 output-long d = ltb-false _ _ (ap (ltb (length (Out (A7 d)))) (omega arith) ∙ d .if7 .left)
 
 abbrev D : tie.After-quantize → tie.Else7
-D q = q .before .before .before
+D q = q .before .before .before .before
 
 abbrev A : tie.After-quantize → tie.Start
 A q = A7 (D q)
+
+-- the shape is that of a sheet by itself, and is accepted
+sheet : (q : tie.After-quantize) → q .before .before .before .sheet-of .result ≡ Sh (A q)
+sheet q = q .before .before .before .sheet-of .ensures
+
+ok : (q : tie.After-quantize) → accepted (Sh (A q)) ≡ true
+ok q =
+    let a = A q in
+    let three = D q .before .before .before .before in
+    W.shape-accepted (Xs a) (Sh a) (a .args .curve) (a .args .step) (Qs a) (Vs a) (Out a) (sizes (three .before .before)) (levels-few three) (step-few three) refl
 
 sized-requires : tie.Need-sized-requires
 sized-requires c κs = search needs
@@ -104,7 +119,7 @@ returns-2 c = let j = c .before in
     (c .refused2 .result) (c .refused2 .ensures .0) (c .refused2 .ensures .1)
 
 mul-points : tie.Need-mul-points
-mul-points c = let a = A3 c in omega (arith, sized-yes (a .args .rows) (a .args .cols) (good-size (c .before .before)) .small)
+mul-points c = let a = A3 c in omega (arith, sized-yes 1 (a .args .rows) (a .args .cols) (good-size (c .before .before)) .small)
 
 refused-requires-3 : tie.Need-refused-requires-3
 refused-requires-3 c κs = search needs
@@ -115,7 +130,7 @@ returns-3 c = let j = c .before in
     let a = A3 d in
     let n = sizes (d .before .before) in
     W.bad-lengths (Xs a) (Sh a) (a .args .curve) (a .args .step) (Qs a) (Vs a) (Out a) n (levels-few d) (step-few d)
-    (⊎-elim (λ w. W.short-samples (Xs a) (Sh a) (a .args .curve) (a .args .step) (Qs a) (Vs a) (Out a) n (levels-few d) (step-few d) (w .taken)) (λ w. W.short-coefficients (Xs a) (Sh a) (a .args .curve) (a .args .step) (Qs a) (Vs a) (Out a) n (levels-few d) (step-few d) (eqb-false _ _ (not-true _ (w .1 .taken)))) (j .if4 .came))
+    (⊎-elim (λ w. W.short-samples (Xs a) (Sh a) (a .args .curve) (a .args .step) (Qs a) (Vs a) (Out a) n (levels-few d) (step-few d) (λ e. w .taken (e ∙ long a))) (λ w. W.short-coefficients (Xs a) (Sh a) (a .args .curve) (a .args .step) (Qs a) (Vs a) (Out a) n (levels-few d) (step-few d) (λ e. eqb-false _ _ (not-true _ (w .1 .taken)) (e ∙ long a))) (j .if4 .came))
     (c .refused3 .result) (c .refused3 .ensures .0) (c .refused3 .ensures .1)
 
 refused-requires-4 : tie.Need-refused-requires-4
@@ -127,8 +142,11 @@ returns-4 c = let j = c .before in
     let a = A3 d in
     let n = sizes (d .before .before) in
     W.bad-lengths (Xs a) (Sh a) (a .args .curve) (a .args .step) (Qs a) (Vs a) (Out a) n (levels-few d) (step-few d)
-    (⊎-elim (λ w. W.short-values (Xs a) (Sh a) (a .args .curve) (a .args .step) (Qs a) (Vs a) (Out a) n (levels-few d) (step-few d) (w .taken)) (λ w. W.short-output (Xs a) (Sh a) (a .args .curve) (a .args .step) (Qs a) (Vs a) (Out a) n (levels-few d) (step-few d) (ltb-true _ _ (ap (ltb (length (Out a))) (omega arith) ∙ w .1 .taken))) (j .if6 .came))
+    (⊎-elim (λ w. W.short-values (Xs a) (Sh a) (a .args .curve) (a .args .step) (Qs a) (Vs a) (Out a) n (levels-few d) (step-few d) (λ e. w .taken (e ∙ long a))) (λ w. W.short-output (Xs a) (Sh a) (a .args .curve) (a .args .step) (Qs a) (Vs a) (Out a) n (levels-few d) (step-few d) (ltb-true _ _ (ap (ltb (length (Out a))) (omega arith) ∙ w .1 .taken))) (j .if6 .came))
     (c .refused4 .result) (c .refused4 .ensures .0) (c .refused4 .ensures .1)
+
+sheet-of-requires : tie.Need-sheet-of-requires
+sheet-of-requires c κs = search needs
 
 quantize-requires : tie.Need-quantize-requires
 quantize-requires c κs = search needs
@@ -156,10 +174,9 @@ write-card-requires c κs = let t = c .before .before .before in
     let q = t .before .before .before .before in
     let d = D q in
     let a = A q in
-    let n = sizes (d .before .before .before .before .before .before) in
-    let three = d .before .before .before .before in (
-      (W.shape-accepted (Xs a) (Sh a) (a .args .curve) (a .args .step) (Qs a) (Vs a) (Out a) n (levels-few three) (step-few three), step-few three, output-long d),
-      (W.coefs-held (Xs a) (Sh a) (a .args .curve) (a .args .step) (Qs a) (Vs a) (Out a) (sizes (d .before .before .before .before .before .before)) (levels-few (d .before .before .before .before)) (step-few (d .before .before .before .before)) (samples-long (d .before .before)) (coefficients-long (d .before .before)) (values-long d) (output-long d) _ (sym (t .enum-told2 .given .1) ∙ q .quantize .ensures .0) (q .quantize .ensures .1), ap (replicate wordsMost) (omega arith)),
+    let made = rw (sheet q) at (q .quantize .ensures) in (
+      (rw (sheet q) (ok q), step-few (d .before .before .before .before), output-long d),
+      (rw (sheet q) (W.coefs-held (Xs a) (Sh a) (a .args .curve) (a .args .step) (Qs a) (Vs a) (Out a) (sizes (d .before .before .before .before .before .before)) (levels-few (d .before .before .before .before)) (step-few (d .before .before .before .before)) (ok q) (samples-long (d .before .before)) (coefficients-long (d .before .before)) (values-long d) (output-long d) _ (sym (t .enum-told2 .given .1) ∙ made .0) (made .1)), ap (replicate wordsMost) (omega arith)),
     )
 
 same-length : tie.Need-same-length
@@ -173,7 +190,8 @@ returns-5 c = let t = c .before in
     let q = t .before .before .before .before in
     let d = D q in
     let a = A q in
-    absurd (W.not-refused (Xs a) (Sh a) (a .args .curve) (a .args .step) (Qs a) (Vs a) (Out a) (sizes (d .before .before .before .before .before .before)) (levels-few (d .before .before .before .before)) (step-few (d .before .before .before .before)) (samples-long (d .before .before)) (coefficients-long (d .before .before)) (values-long d) (output-long d) (sym (t .enum-told .given .1) ∙ q .quantize .ensures .0))
+    let made = rw (sheet q) at (q .quantize .ensures) in
+    absurd (W.not-refused (Xs a) (Sh a) (a .args .curve) (a .args .step) (Qs a) (Vs a) (Out a) (sizes (d .before .before .before .before .before .before)) (levels-few (d .before .before .before .before)) (step-few (d .before .before .before .before)) (ok q) (samples-long (d .before .before)) (coefficients-long (d .before .before)) (values-long d) (output-long d) (sym (t .enum-told .given .1) ∙ made .0))
 
 same-length-3 : tie.Need-same-length-3
 same-length-3 c = search needs
@@ -186,7 +204,8 @@ returns-6 c = let r = c .before .before in
     let q = r .before .before .before .before in
     let d = D q in
     let a = A q in
-    W.out-at (Xs a) (Sh a) (a .args .curve) (a .args .step) (Qs a) (Vs a) (Out a) (sizes (d .before .before .before .before .before .before)) (levels-few (d .before .before .before .before)) (step-few (d .before .before .before .before)) (samples-long (d .before .before)) (coefficients-long (d .before .before)) (values-long d) (output-long d) _ _ _ _ (c .refused6 .result) (sym (r .row .given .1) ∙ q .quantize .ensures .0) (q .quantize .ensures .1) (q .quantize .ensures .2) (c .refused6 .ensures .0) (c .refused6 .ensures .1)
+    let made = rw (sheet q) at (q .quantize .ensures) in
+    W.out-at (Xs a) (Sh a) (a .args .curve) (a .args .step) (Qs a) (Vs a) (Out a) (sizes (d .before .before .before .before .before .before)) (levels-few (d .before .before .before .before)) (step-few (d .before .before .before .before)) (ok q) (samples-long (d .before .before)) (coefficients-long (d .before .before)) (values-long d) (output-long d) _ _ _ _ (c .refused6 .result) (sym (r .row .given .1) ∙ made .0) (made .1) (made .2) (c .refused6 .ensures .0) (c .refused6 .ensures .1)
 
 same-length-5 : tie.Need-same-length-5
 same-length-5 c = search needs
@@ -203,7 +222,9 @@ returns-7 c = let w = c .before .before .before in
     let q = t .before .before .before .before in
     let d = D q in
     let a = A q in
-    W.card-told (Xs a) (Sh a) (a .args .curve) (a .args .step) (Qs a) (Vs a) (Out a) (sizes (d .before .before .before .before .before .before)) (levels-few (d .before .before .before .before)) (step-few (d .before .before .before .before)) (samples-long (d .before .before)) (coefficients-long (d .before .before)) (values-long d) (output-long d) _ _ _ _ (sym (t .enum-told2 .given .1) ∙ q .quantize .ensures .0) (q .quantize .ensures .1) (q .quantize .ensures .2) (w .write-card .ensures .0) (w .write-card .ensures .1)
+    let made = rw (sheet q) at (q .quantize .ensures) in
+    let card = rw (sheet q) at (w .write-card .ensures) in
+    W.card-told (Xs a) (Sh a) (a .args .curve) (a .args .step) (Qs a) (Vs a) (Out a) (sizes (d .before .before .before .before .before .before)) (levels-few (d .before .before .before .before)) (step-few (d .before .before .before .before)) (ok q) (samples-long (d .before .before)) (coefficients-long (d .before .before)) (values-long d) (output-long d) _ _ _ _ (sym (t .enum-told2 .given .1) ∙ made .0) (made .1) (made .2) (card .0) (card .1)
 
 pub write-spec : {M : Type 1} → statement M
 write-spec =
@@ -219,6 +240,7 @@ write-spec =
     returns-3
     refused-requires-4
     returns-4
+    sheet-of-requires
     quantize-requires
     enum-told
     refused-requires-5

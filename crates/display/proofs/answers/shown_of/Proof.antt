@@ -9,6 +9,7 @@ use denote.Ref.{now}
 use Rattle.layers.specs.Limits.{pointsMost}
 use Rattle.layers.specs.Sheet.{points}
 use Rattle.header.specs.declared.Details.{Details}
+use Rattle.display.proofs.OpenedSize.{Small}
 use Rattle.display.proofs.Seeing.{sheet-small, shown-is, values-are}
 use borrow.Author.Needs.{needs}
 use Rattle.display.proofs.answers.shown_of.Statement.{statement}
@@ -20,8 +21,11 @@ open-requires c κs = search needs
 abbrev N : tie.After-open → ℕ
 N o = points (o .«open» .result .header .shape)
 
+sizes : (o : tie.After-open) → Small (o .«open» .result .header .shape)
+sizes o = sheet-small (now (o .before .before .args .bytes)) (o .«open» .result) (o .«open» .ensures)
+
 small : (o : tie.After-open) → N o ≤ pointsMost
-small o = sheet-small (now (o .before .before .args .bytes)) (o .«open» .result) (o .«open» .ensures)
+small o = sizes o .1
 
 coefficients-long : (s : tie.Start) → length (now (s .args .coefficients)) ≡ pointsMost
 coefficients-long s = ap length (s .pre .0) ∙ length-replicate pointsMost (pos 0)
@@ -30,7 +34,10 @@ values-long : (s : tie.Start) → length (now (s .args .values)) ≡ pointsMost
 values-long s = ap length (s .pre .1) ∙ length-replicate pointsMost (pos 0)
 
 mul-points : tie.Need-mul-points
-mul-points c = omega (arith, small (c .before .before))
+mul-points c = omega (arith, sizes (c .before .before))
+
+mul-points-2 : tie.Need-mul-points-2
+mul-points-2 c = omega (arith, sizes (c .before .before))
 
 slice-relend-prefix-show : tie.Need-slice-relend-prefix-show
 slice-relend-prefix-show c = let o = c .before .before in omega (arith, small o, coefficients-long (o .before .before))
@@ -69,6 +76,7 @@ returns c =
     let long : length vs ≡ N o = w .show .kept .1 .1 .0 ∙ sym (slice-aggregate-show-2 (w .before)) in (
       (λ i. record { number = number i; shape = o .«open» .result .header .shape; plan = w .show .result .plan; figure = w .show .result .figure }) ∙ shown,
       take-at vs (drop (N o) (now (s .args .values))) (N o) long ∙ values,
+      sizes o .0,
       small o,
     )
 
@@ -78,6 +86,7 @@ shown-of-spec =
     (tie.spec
     open-requires
     mul-points
+    mul-points-2
     slice-relend-prefix-show
     slice-aggregate-show
     slice-relend-prefix-show-2

@@ -13,18 +13,21 @@ shown-of-requires : tie.Need-shown-of-requires
 shown-of-requires c κs = search needs
 
 mul-points : tie.Need-mul-points
-mul-points c = search needs
+mul-points c = omega (arith, c .before .before .before .shown-of .ensures)
+
+mul-points-2 : tie.Need-mul-points-2
+mul-points-2 c = omega (arith, c .before .before .before .shown-of .ensures)
 
 long : (c : tie.After-shown-of) → length (c .shown-of .last .1 .1 .0) ≡ pointsMost
 long c = c .shown-of .kept .1 .1 .0 ∙ ap length (c .before .before .before .before .pre .1) ∙ length-replicate pointsMost (pos 0)
 
 slice-reshare-prefix-print : tie.Need-slice-reshare-prefix-print
-slice-reshare-prefix-print c = let d = c .before .before .before in omega (arith, long d, d .shown-of .ensures .2)
+slice-reshare-prefix-print c = let d = c .before .before .before in omega (arith, long d, d .shown-of .ensures .3)
 
 slice-aggregate-print : tie.Need-slice-aggregate-print
 slice-aggregate-print c =
     let d = c .before .before .before .before in
-    omega (arith, long d, d .shown-of .ensures .2, length-take (points (d .shown-of .result .shape)) (d .shown-of .last .1 .1 .0))
+    omega (arith, long d, d .shown-of .ensures .3, length-take (points (d .shown-of .result .shape)) (d .shown-of .last .1 .1 .0))
 
 print-requires : tie.Need-print-requires
 print-requires c κs =
@@ -46,6 +49,7 @@ show-in-spec =
     (tie.spec
     shown-of-requires
     mul-points
+    mul-points-2
     slice-reshare-prefix-print
     slice-aggregate-print
     print-requires

@@ -15,7 +15,7 @@ use Rattle.layers.proofs.Accepting.{count-is}
 use Rattle.header.specs.Header.{planesOf}
 use Rattle.header.specs.Plan.{loads}
 use Rattle.header.specs.Figure.{ownLoss, figureOf}
-use Rattle.header.proofs.Figures.{standingMost, missing-few, own-most, standing-most}
+use Rattle.header.proofs.Figures.{standing-small, missing-few, own-most, standing-most}
 use Rattle.header.proofs.Over.{over-none}
 use Rattle.header.proofs.Rightness.{Right, right-yes, layers-few}
 use Rattle.header.proofs.bound.figure_of.Statement.{statement}
@@ -60,10 +60,10 @@ own-small c =
     omega (arith, own-is c, own-most (rightly s) (loads (s .args .plan)) (c .before .before .loop .k) (inside (c .before)))
 
 -- what stands
-small : (l : tie.At-loop Inv-loop μ-loop) → l .loop .standing ≤ standingMost
+small : (l : tie.At-loop Inv-loop μ-loop) → l .loop .standing ≤ 2 ^ 56
 small l =
     let s = S (l .before) in
-    omega (arith, l .loop .inv .1, standing-most (rightly s) (loads (s .args .plan)) (l .loop .k) (omega (arith, l .loop .inv .0, all (l .before))))
+    omega (arith, l .loop .inv .1, standing-most (rightly s) (loads (s .args .plan)) (l .loop .k) (omega (arith, l .loop .inv .0, all (l .before))), standing-small)
 
 mul-width : tie.Need-mul-width Inv-loop μ-loop
 mul-width c = omega (arith, rightly (c .before .before .before .before) .step)
@@ -104,7 +104,7 @@ mul-own c = omega (arith, own-small c)
 standing-after-requires : tie.Need-standing-after-requires Inv-loop μ-loop
 standing-after-requires c κs =
     let l = c .before .before in
-    (rightly (S (l .before)) .shape, within (c .before), omega (arith, small l), own-small c)
+    (rightly (S (l .before)) .shape, within (c .before), small l, own-small c)
 
 add-k : tie.Need-add-k Inv-loop μ-loop
 add-k c = omega (arith, inside (c .before .before))

@@ -4,7 +4,8 @@ use native.Mathlib.Omega.{arith}
 use lib.ListN.{drop}
 use borrow.Author.Needs.{needs}
 use Rattle.layers.specs.Limits.{levelsMost}
-use Rattle.layers.proofs.Accepting.{accepted-by}
+use Rattle.layers.specs.Sheet.{sheetOf}
+use Rattle.layers.proofs.Accepting.{Sheet, accepted-by}
 use Rattle.text.specs.declared.Line.the-variants.{Number}
 use Rattle.text.specs.Line.{lineAt}
 use Rattle.text.proofs.Lines.{Written, written}
@@ -30,6 +31,14 @@ number v = line (R v) ∙ v .value .given .1
 told : (v : tie.After-value) → Written (ascii "levels=") 0 levelsMost (drop (A (R v) .args .at) (A (R v) .args .bytes .now)) (v .value .given .0 .0) (v .value .given .0 .1 .0)
 told v = written _ _ _ _ _ _ (number v)
 
+abbrev G : tie.After-sheet-of → tie.After-value
+G c = c .before .before
+
+sizes : (c : tie.After-sheet-of) → Sheet (sheetOf (A (R (G c)) .args .rows) (A (R (G c)) .args .cols) (G c .value .given .0 .0))
+sizes c =
+    let pre = A (R (G c)) .pre in
+    record { thick = omega arith; flat = omega arith; tall = pre .0; wide = pre .1; small = omega (arith, pre .2); shallow = told (G c) .most }
+
 slice-aggregate-read-line : tie.Need-slice-aggregate-read-line
 slice-aggregate-read-line c = search needs
 
@@ -51,11 +60,14 @@ refused-requires-2 c κs = search needs
 enum-known-value : tie.Need-enum-known-value
 enum-known-value c = search needs
 
+sheet-of-requires : tie.Need-sheet-of-requires
+sheet-of-requires c κs = tt
+
 add-open-curve : tie.Need-add-open-curve
-add-open-curve c = omega (arith, line-ends (A (R (c .before)) .args .bytes .now) (A (R (c .before)) .args .at) (c .before .value .given .0 .1 .0) _ _ _ _ (number (c .before)))
+add-open-curve c = omega (arith, line-ends (A (R (G c)) .args .bytes .now) (A (R (G c)) .args .at) (G c .value .given .0 .1 .0) _ _ _ _ (number (G c)))
 
 open-curve-requires : tie.Need-open-curve-requires
-open-curve-requires c κs = accepted-by _ (record { tall = A (R (c .before)) .pre .0; wide = A (R (c .before)) .pre .1; small = A (R (c .before)) .pre .2; shallow = told (c .before) .most })
+open-curve-requires c κs = rw (c .sheet-of .ensures) (accepted-by _ (sizes c))
 
 returns : tie.Need-returns
 unfolding openingLevels
@@ -67,7 +79,7 @@ returns-2 c = rw (line (c .before .before .before), c .before .enum-told2 .given
 
 returns-3 : tie.Need-returns-3
 unfolding openingLevels
-returns-3 c = rw (number (c .before .before)) (c .open-curve .ensures)
+returns-3 c = rw (number (G (c .before)), ← c .before .sheet-of .ensures) (c .open-curve .ensures)
 
 pub open-levels-spec : {M : Type 1} → statement M
 open-levels-spec =
@@ -80,6 +92,7 @@ open-levels-spec =
     enum-told-2
     refused-requires-2
     enum-known-value
+    sheet-of-requires
     add-open-curve
     open-curve-requires
     returns

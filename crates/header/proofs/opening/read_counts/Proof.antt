@@ -1,14 +1,15 @@
 -- Invariant: what the text spells is the counts stored so far in front of what its rest spells, and the array is 0 from there on. Each turn reads one count up to
 -- a comma, and the last one is the rest.
 use mathlib.Core.List.{List}
-use mathlib.Core.Path.{_≡_, refl, _∙_}
-use Prim.Native.Nat.{ℕ, _*_, _-_, _<_}
+use mathlib.Core.Path.{_≡_, _∙_}
+use Prim.Native.Nat.{ℕ, _+_, _-_, _<_}
 use native.Mathlib.Omega.{arith}
 use lib.ListN.{length, take, drop}
 use borrow.Author.Needs.{needs}
 use Rattle.layers.specs.declared.Shape.{Shape}
 use Rattle.layers.specs.Limits.{layersMost}
-use Rattle.layers.proofs.Accepting.{Sheet, accepted-yes}
+use Rattle.layers.specs.Sheet.{layers}
+use Rattle.layers.proofs.Accepting.{accepted-yes, layers-few, count-is}
 use Rattle.text.specs.Decimal.{parsed}
 use Rattle.header.specs.Opening.{planesMost}
 use Rattle.header.proofs.Counting.{Sofar, count-read, none-yet, cut, bad, one-more, last-bad, complete}
@@ -31,13 +32,17 @@ abbrev sh : tie.At-loop Inv-loop μ-loop → Shape
 sh l = S l .args .shape
 
 abbrev last : tie.At-loop Inv-loop μ-loop → ℕ
-last l = 2 * sh l .levels
+last l = l .before .layer-count .result - 1
 
-ok : (s : tie.Start Inv-loop μ-loop) → Sheet (s .args .shape)
-ok s = accepted-yes (s .args .shape) (s .pre)
+-- the layers that are counted are the shape's
+all : (c : tie.After-layer-count Inv-loop μ-loop) → c .layer-count .result ≡ layers (c .before .before .args .shape)
+all c = c .layer-count .ensures ∙ count-is (c .before .before .args .shape) (c .before .before .pre)
+
+is-last : (c : tie.After-layer-count Inv-loop μ-loop) → c .layer-count .result - 1 + 1 ≡ layers (c .before .before .args .shape)
+is-last c = omega (arith, all c)
 
 few : (l : tie.At-loop Inv-loop μ-loop) → last l < layersMost
-few l = omega (arith, ok (S l) .shallow)
+few l = omega (arith, is-last (l .before), layers-few (sh l) (accepted-yes (sh l) (S l .pre)))
 
 -- in the loop
 abbrev F : tie.Else1 Inv-loop μ-loop → tie.After-find Inv-loop μ-loop
@@ -59,11 +64,14 @@ Q p = p .before .before .before
 read-last : (p : tie.After-parse2 Inv-loop μ-loop) → (let l = Q p .before in parsed 0 (planesMost (sh l) (last l)) (take (length (text l) - l .loop .at) (drop (l .loop .at) (text l))) ≡ p .parse2 .result)
 read-last p = let l = Q p .before in count-read (sh l) (last l) _ (p .parse2 .ensures) (omega arith) (p .before .planes-most2 .ensures)
 
-mul-last : tie.Need-mul-last Inv-loop μ-loop
-mul-last c = omega (arith, ok (c .before .before) .shallow)
+layer-count-requires : tie.Need-layer-count-requires Inv-loop μ-loop
+layer-count-requires c κs = tt
+
+sub-last : tie.Need-sub-last Inv-loop μ-loop
+sub-last c = omega (arith, all c)
 
 loop-holds : tie.Need-loop-holds Inv-loop μ-loop
-loop-holds c = none-yet _ _ _ refl
+loop-holds c = none-yet _ _ _ (is-last c)
 
 find-requires : tie.Need-find-requires Inv-loop μ-loop
 find-requires c κs = search needs
@@ -76,7 +84,7 @@ returns c =
     let t = c .before in
     let f = t .before in
     let l = M f in
-    rw (cut (sh l) (text l) (last l) refl (l .loop .planes) (l .loop .at) (l .loop .k) (l .loop .inv) (f .find .result) (f .find .ensures) (f .before .loop-test .taken) (t .if1 .taken)) (c .wrong-counts .ensures)
+    rw (cut (sh l) (text l) (last l) (is-last (l .before)) (l .loop .planes) (l .loop .at) (l .loop .k) (l .loop .inv) (f .find .result) (f .find .ensures) (f .before .loop-test .taken) (t .if1 .taken)) (c .wrong-counts .ensures)
 
 sub-parse : tie.Need-sub-parse Inv-loop μ-loop
 sub-parse c = omega (arith, c .before .find .ensures)
@@ -108,7 +116,7 @@ returns-2 c =
     let e = P p in
     let f = F e in
     let l = M f in
-    rw (bad (sh l) (text l) (last l) refl (l .loop .planes) (l .loop .at) (l .loop .k) (l .loop .inv) (f .find .result) (f .find .ensures) (f .before .loop-test .taken) (e .if1 .left) (read p ∙ c .before .enum-told .given .1)) (c .wrong-counts2 .ensures)
+    rw (bad (sh l) (text l) (last l) (is-last (l .before)) (l .loop .planes) (l .loop .at) (l .loop .k) (l .loop .inv) (f .find .result) (f .find .ensures) (f .before .loop-test .taken) (e .if1 .left) (read p ∙ c .before .enum-told .given .1)) (c .wrong-counts2 .ensures)
 
 mul-planes : tie.Need-mul-planes Inv-loop μ-loop
 mul-planes c = let l = M (F (P (c .before .before .before))) in omega (arith, few l, F (P (c .before .before .before)) .before .loop-test .taken)
@@ -131,7 +139,7 @@ loop-again c =
     let e = P p in
     let f = F e in
     let l = M f in
-    one-more (sh l) (text l) (last l) refl (l .loop .planes) (l .loop .at) (l .loop .k) (l .loop .inv) (f .find .result) (f .find .ensures) (f .before .loop-test .taken) (e .if1 .left) _ (read p ∙ c .before .n .given .1) (few l)
+    one-more (sh l) (text l) (last l) (is-last (l .before)) (l .loop .planes) (l .loop .at) (l .loop .k) (l .loop .inv) (f .find .result) (f .find .ensures) (f .before .loop-test .taken) (e .if1 .left) _ (read p ∙ c .before .n .given .1) (few l)
 
 sub-parse-2 : tie.Need-sub-parse-2 Inv-loop μ-loop
 sub-parse-2 c = c .before .loop .inv .inside
@@ -161,7 +169,7 @@ returns-3 : tie.Need-returns-3 Inv-loop μ-loop
 returns-3 c =
     let p = c .before .before .before in
     let l = Q p .before in
-    rw (last-bad (sh l) (text l) (last l) refl (l .loop .planes) (l .loop .at) (l .loop .k) (l .loop .inv) (Q p .loop-test .left) (read-last p ∙ c .before .enum-told2 .given .1)) (c .wrong-counts3 .ensures)
+    rw (last-bad (sh l) (text l) (last l) (is-last (l .before)) (l .loop .planes) (l .loop .at) (l .loop .k) (l .loop .inv) (Q p .loop-test .left) (read-last p ∙ c .before .enum-told2 .given .1)) (c .wrong-counts3 .ensures)
 
 mul-planes-2 : tie.Need-mul-planes-2 Inv-loop μ-loop
 mul-planes-2 c = omega (arith, few (Q (c .before .before .before) .before))
@@ -173,7 +181,7 @@ returns-4 : tie.Need-returns-4 Inv-loop μ-loop
 returns-4 c =
     let p = c .before .before .before in
     let l = Q p .before in
-    rw (complete (sh l) (text l) (last l) refl (l .loop .planes) (l .loop .at) (l .loop .k) (l .loop .inv) (Q p .loop-test .left) _ (read-last p ∙ c .before .n2 .given .1) (few l))
+    rw (complete (sh l) (text l) (last l) (is-last (l .before)) (l .loop .planes) (l .loop .at) (l .loop .k) (l .loop .inv) (Q p .loop-test .left) _ (read-last p ∙ c .before .n2 .given .1) (few l))
 
 pub read-counts-spec : {M : Type 1} → statement M
 read-counts-spec =
@@ -181,7 +189,8 @@ read-counts-spec =
     (tie.spec
     Inv-loop
     μ-loop
-    mul-last
+    layer-count-requires
+    sub-last
     loop-holds
     find-requires
     wrong-counts-requires

@@ -7,7 +7,7 @@ use lib.ListN.{getD}
 use Rattle.layers.specs.Limits.{layersMost}
 use Rattle.layers.specs.Lists.{total}
 use Rattle.layers.specs.Sheet.{layers}
-use Rattle.layers.proofs.Accepting.{accepted-yes, count-is}
+use Rattle.layers.proofs.Accepting.{accepted-yes, layers-few, count-is}
 use Rattle.header.specs.Header.{cellsMost, planeCells, cellsOf}
 use Rattle.header.proofs.Cells.{cells-there}
 use Rattle.header.proofs.Total.{part-most}
@@ -33,7 +33,7 @@ within : (i : tie.In-loop Inv-loop μ-loop) → i .before .loop .k < layers (i .
 within i = omega (arith, i .loop-test .taken, all (i .before .before))
 
 inside : (i : tie.In-loop Inv-loop μ-loop) → i .before .loop .k < layersMost
-inside i = let s = i .before .before .before in omega (arith, within i, accepted-yes (s .args .shape) (s .pre .0) .shallow)
+inside i = let s = i .before .before .before in omega (arith, within i, layers-few (s .args .shape) (accepted-yes (s .args .shape) (s .pre .0)))
 
 -- the cells of this turn's layer
 here : (c : tie.After-plane-cells Inv-loop μ-loop) → c .plane-cells .result * getD (S c .args .t2) (c .before .before .loop .k) 0 ≡ planeCells (S c .args .shape) (c .before .before .loop .k) * getD (S c .args .t2) (c .before .before .loop .k) 0

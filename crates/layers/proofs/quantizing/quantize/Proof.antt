@@ -1,6 +1,6 @@
 -- Each test that refuses is one that `quantizable` asks for. After them the scan is the one that quantizing names: where it found a sample
--- nothing changes, and where it found none the layers are quantized.
-use mathlib.Core.Path.{_≡_, _∙_, sym, ap}
+-- nothing changes, and where it found none the layers are quantized, those of the shape as it is laid, which come to the same.
+use mathlib.Core.Path.{_≡_, _∙_, refl, sym, ap}
 use mathlib.Core.Bool.{true}
 use mathlib.Core.List.{List}
 use Prim.Native.Nat.{ℕ}
@@ -10,10 +10,16 @@ use denote.Ref.{now}
 use borrow.Author.Needs.{needs}
 use borrow.Author.Tests.{not-true, not-false}
 use Rattle.layers.specs.declared.Shape.{Shape}
-use Rattle.layers.specs.declared.Quantized.the-variants.{OutOfRange}
-use Rattle.layers.specs.Calls.{settled, Quantizing, quantizable}
-use Rattle.layers.proofs.Accepting.{accepted-yes}
-use Rattle.layers.proofs.Answers.{settled-yes, samples-by, unsettled, samples-short, coefficients-short, values-short, right, after-scan}
+use Rattle.layers.specs.declared.Curve.{Curve}
+use Rattle.layers.specs.declared.Scan.the-variants.{Clear}
+use Rattle.layers.specs.declared.Quantized.the-variants.{Done, OutOfRange}
+use Rattle.layers.specs.Layering.{layering, written, coefs}
+use Rattle.layers.specs.Calls.{settled, Quantizing, quantizable, afterScan, quantizing}
+use Rattle.layers.specs.Loops.{laid}
+use Rattle.layers.proofs.Accepting.{Sheet, accepted-yes}
+use Rattle.layers.proofs.Fits.{lines-small}
+use Rattle.layers.proofs.Answers.{Comes, settled-yes, samples-by, unsettled, samples-short, coefficients-short, values-short, right, after-scan}
+use Rattle.layers.proofs.Column.{laid-points, laid-samples, laid-written, laid-coefs}
 use Rattle.layers.proofs.quantizing.quantize.Statement.{statement}
 use Rattle.layers.proofs.quantizing.quantize.Tie as tie
 
@@ -41,10 +47,14 @@ returns c =
 is-settled : (c : tie.Else1) → settled (Sh (c .before .before)) (c .before .before .args .step) ≡ true
 is-settled c = sym (c .before .settled .ensures) ∙ not-false _ (c .if1 .left)
 
+sheet : (c : tie.Else1) → Sheet (Sh (c .before .before))
+sheet c = let a = c .before .before in accepted-yes (Sh a) (settled-yes (Sh a) (a .args .step) (is-settled c) .0)
+
+mul-lines : tie.Need-mul-lines
+mul-lines c = omega (arith, lines-small (sheet c))
+
 mul-points : tie.Need-mul-points
-mul-points c =
-    let a = c .before .before in
-    omega (arith, accepted-yes (Sh a) (settled-yes (Sh a) (a .args .step) (is-settled c) .0) .small)
+mul-points c = omega (arith, sheet c .small)
 
 returns-2 : tie.Need-returns-2
 returns-2 c =
@@ -79,15 +89,18 @@ enum-known-row c = search needs
 enum-told : tie.Need-enum-told
 enum-told c = search needs
 
+laid-requires : tie.Need-laid-requires
+laid-requires c κs = search needs
+
 quantize-layers-requires : tie.Need-quantize-layers-requires
 quantize-layers-requires c κs =
-    let t = c .before .before in
+    let l = c .before .before in
+    let t = l .before in
     let s = t .before .before in
     let d = s .before in
-    let a = A d in (
-      samples-by (Sh a) (a .args .step) (Xs a) (is-settled (d .before .before .before)) (d .before .before .if2 .left) (sym (s .scan-samples .ensures) ∙ t .enum-told .given .1),
-      (d .before .if3 .left, d .if4 .left),
-    )
+    let a = A d in
+    let clear = samples-by (Sh a) (a .args .step) (Xs a) (is-settled (d .before .before .before)) (d .before .before .if2 .left) (sym (s .scan-samples .ensures) ∙ t .enum-told .given .1) in
+    rw (l .laid .ensures) (laid-samples (Sh a) clear, (d .before .if3 .left ∙ sym (laid-points (Sh a)), d .if4 .left ∙ sym (laid-points (Sh a))))
 
 -- the place that is answered, number by number
 same-place : {row row′ col col′ : ℕ} → row ≡ row′ → col ≡ col′ → OutOfRange row col ≡ OutOfRange row′ col′
@@ -108,18 +121,22 @@ same-length c = search needs
 same-length-2 : tie.Need-same-length-2
 same-length-2 c = search needs
 
+-- what is left where the scan is clear, from the shape as it is laid
+done : (sh : Shape) (curve : Curve) (e : ℕ) (xs qs vs : List ℤ) {laid-sh : Shape} {qs′ vs′ : List ℤ} → quantizing sh curve e xs qs vs ≡ afterScan sh curve e xs qs vs Clear
+    → laid-sh ≡ laid sh → qs′ ≡ coefs (layering laid-sh curve) e xs → vs′ ≡ written (layering laid-sh curve) e xs → Comes (quantizing sh curve e xs qs vs) Done qs′ vs′
+done sh curve e xs qs vs clear l q v = rw (clear, q, v, l) (refl, laid-coefs sh curve e xs, laid-written sh curve e xs)
+
 returns-6 : tie.Need-returns-6
 returns-6 c =
     let w = c .before .before in
-    let t = w .before .before .before in
+    let l = w .before .before .before in
+    let t = l .before in
     let s = t .before .before in
     let d = s .before in
     let a = A d in
-    let e = after-scan (Sh a) (a .args .curve) (a .args .step) (Xs a) (Qs a) (Vs a) (all-right d) _ (sym (t .enum-told .given .1) ∙ s .scan-samples .ensures) in (
-      ap (λ (z : Quantizing). z .answer) (sym e),
-      w .quantize-layers .ensures .0 ∙ ap (λ (z : Quantizing). z .coefficients) (sym e),
-      w .quantize-layers .ensures .1 ∙ ap (λ (z : Quantizing). z .values) (sym e),
-    )
+    done (Sh a) (a .args .curve) (a .args .step) (Xs a) (Qs a) (Vs a)
+    (after-scan (Sh a) (a .args .curve) (a .args .step) (Xs a) (Qs a) (Vs a) (all-right d) _ (sym (t .enum-told .given .1) ∙ s .scan-samples .ensures))
+    (l .laid .ensures) (w .quantize-layers .ensures .0) (w .quantize-layers .ensures .1)
 
 pub quantize-spec : {M : Type 1} → statement M
 quantize-spec =
@@ -127,6 +144,7 @@ quantize-spec =
     (tie.spec
     settled-requires
     returns
+    mul-lines
     mul-points
     returns-2
     returns-3
@@ -134,6 +152,7 @@ quantize-spec =
     scan-samples-requires
     enum-known-row
     enum-told
+    laid-requires
     quantize-layers-requires
     returns-5
     same-length

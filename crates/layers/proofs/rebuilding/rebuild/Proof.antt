@@ -1,4 +1,5 @@
--- Each arm that refuses shows that one test of `rebuildable` is false; the last arm has passed them all, and its call gives the values.
+-- Each arm that refuses shows that one test of `rebuildable` is false; the last arm has passed them all, and its call gives the values of
+-- the shape as it is laid, which are those of the shape itself.
 use mathlib.Core.Path.{_≡_, _∙_, sym}
 use mathlib.Core.Bool.{true, false, _&&_}
 use mathlib.Core.List.{List}
@@ -15,9 +16,12 @@ use Rattle.layers.specs.Limits.{stepMost}
 use Rattle.layers.specs.Sheet.{accepted, points}
 use Rattle.layers.specs.Layering.{layering, rebuilt}
 use Rattle.layers.specs.Calls.{settled, full, rebuildable, rebuilding}
+use Rattle.layers.specs.Loops.{laid}
 use Rattle.integers.proofs.Bools.{and-both, and-no-left, and-no-right}
-use Rattle.layers.proofs.Accepting.{accepted-yes}
+use Rattle.layers.proofs.Accepting.{Sheet, accepted-yes}
+use Rattle.layers.proofs.Fits.{lines-small}
 use Rattle.layers.proofs.Answers.{settled-yes, full-yes, full-no}
+use Rattle.layers.proofs.Column.{laid-accepted, laid-points, laid-rebuilt}
 use Rattle.layers.proofs.rebuilding.rebuild.Statement.{statement}
 use Rattle.layers.proofs.rebuilding.rebuild.Tie as tie
 
@@ -43,8 +47,10 @@ module _ (sh : Shape) (e : ℕ) (qs vs : List ℤ) where
     refused : rebuildable sh e qs vs ≡ false → (false ≡ rebuildable sh e qs vs) × (vs ≡ rebuilding sh curve e qs vs)
     refused h = (sym h, unfold rebuilding in (rw h))
 
-    done : rebuildable sh e qs vs ≡ true → (true ≡ rebuildable sh e qs vs) × (rebuilt (layering sh curve) e qs ≡ rebuilding sh curve e qs vs)
-    done h = (sym h, unfold rebuilding in (rw h))
+    -- from the shape as it is laid
+    done : {laid-sh : Shape} {ws : List ℤ} → rebuildable sh e qs vs ≡ true → laid-sh ≡ laid sh → ws ≡ rebuilt (layering laid-sh curve) e qs
+        → (true ≡ rebuildable sh e qs vs) × (ws ≡ rebuilding sh curve e qs vs)
+    done h l w = (sym h, unfold rebuilding in (rw (w, l, h) (laid-rebuilt sh curve e qs)))
 
 settled-requires : tie.Need-settled-requires
 settled-requires c κs = search needs
@@ -67,8 +73,14 @@ yes s = sym (s .before .settled .ensures) ∙ not-false (s .before .settled .res
 ok : (s : tie.Else1) → (accepted (A s .args .shape) ≡ true) × (A s .args .step ≤ stepMost)
 ok s = settled-yes (A s .args .shape) (A s .args .step) (yes s)
 
+sheet : (s : tie.Else1) → Sheet (A s .args .shape)
+sheet s = accepted-yes (A s .args .shape) (ok s .0)
+
 mul-points : tie.Need-mul-points
-mul-points c = omega (arith, accepted-yes (A c .args .shape) (ok c .0) .small)
+mul-points c = omega (arith, lines-small (sheet c))
+
+mul-points-2 : tie.Need-mul-points-2
+mul-points-2 c = omega (arith, sheet c .small)
 
 returns-2 : tie.Need-returns-2
 returns-2 c =
@@ -84,23 +96,30 @@ returns-3 c =
     let vs = now (a .args .values) in
     refused (a .args .shape) (a .args .step) qs vs (a .args .curve) (no-values (a .args .shape) (a .args .step) qs vs (c .if3 .taken))
 
+laid-requires : tie.Need-laid-requires
+laid-requires c κs = search needs
+
 rebuild-layers-requires : tie.Need-rebuild-layers-requires
 rebuild-layers-requires c κs =
-    let e = c .before in
-    (ok (e .before .before), (e .before .if2 .left, e .if3 .left))
+    let l = c .before in
+    let e = l .before in
+    let s = e .before .before in
+    let sh = A s .args .shape in
+    rw (l .laid .ensures, laid-points sh) ((laid-accepted sh (ok s .0), ok s .1), (e .before .if2 .left, e .if3 .left))
 
 same-length : tie.Need-same-length
 same-length c = search needs
 
 returns-4 : tie.Need-returns-4
 returns-4 c =
-    let e = c .before .before .before in
+    let l = c .before .before .before in
+    let e = l .before in
     let s = e .before .before in
     let a = A s in
     let qs = now (a .args .coefficients) in
     let vs = now (a .args .values) in
-    let d = done (a .args .shape) (a .args .step) qs vs (a .args .curve) (all-there (a .args .shape) (a .args .step) qs vs (yes s) (e .before .if2 .left) (e .if3 .left)) in
-    (d .0, c .before .rebuild-layers .ensures ∙ d .1)
+    done (a .args .shape) (a .args .step) qs vs (a .args .curve)
+    (all-there (a .args .shape) (a .args .step) qs vs (yes s) (e .before .if2 .left) (e .if3 .left)) (l .laid .ensures) (c .before .rebuild-layers .ensures)
 
 pub rebuild-spec : {M : Type 1} → statement M
 rebuild-spec =
@@ -109,8 +128,10 @@ rebuild-spec =
     settled-requires
     returns
     mul-points
+    mul-points-2
     returns-2
     returns-3
+    laid-requires
     rebuild-layers-requires
     same-length
     returns-4)

@@ -1,4 +1,4 @@
--- A layer has the points of all its lines (`lines-size`), and no more than the sheet, so the product fits; a layer that is not there has no lines.
+-- A layer has the points of all its lines (`lines-size`), and no more than the stack, so the product fits; a layer that is not there has no lines.
 use mathlib.Core.Path.{_≡_}
 use mathlib.Core.Bool.{_&&_}
 use Prim.Native.Nat.{ℕ, _*_, _≤_}
@@ -6,35 +6,47 @@ use native.Mathlib.Omega.{arith}
 use lib.Dec.{ltb}
 use borrow.Author.Needs.{needs}
 use Rattle.layers.specs.declared.Shape.{Shape}
-use Rattle.layers.specs.Limits.{pointsMost}
+use Rattle.layers.specs.declared.Lines.{Lines}
+use Rattle.layers.specs.Limits.{pointsMost, depthMost}
 use Rattle.layers.specs.Sheet.{accepted, layers}
-use Rattle.layers.specs.Calls.{sizing, layerLines}
+use Rattle.layers.specs.Calls.{sizing, rowLines}
 use Rattle.integers.proofs.Bools.{by, and-left}
 use Rattle.layers.proofs.Accepting.{accepted-yes}
 use Rattle.layers.proofs.Places.{size-most}
-use Rattle.layers.proofs.LinePoints.{lines-size}
+use Rattle.layers.proofs.LinePoints.{lines-size, lines-few}
 use Rattle.layers.proofs.sheet.layer_size.Statement.{statement}
 use Rattle.layers.proofs.sheet.layer_size.Tie as tie
 
-lines-sizing : (sh : Shape) (k : ℕ) → (layerLines sh k .lines * layerLines sh k .points ≡ sizing sh k) × (sizing sh k ≤ pointsMost)
-unfolding layerLines sizing
+-- the lines and the points of all of them
+record Sizes (sh : Shape) (k : ℕ) (l : Lines) : Type 0 where
+  few : l .sheets * l .lines ≤ depthMost * pointsMost
+  is : l .sheets * l .lines * l .points ≡ sizing sh k
+  most : sizing sh k ≤ pointsMost
+
+lines-sizing : (sh : Shape) (k : ℕ) → Sizes sh k (rowLines sh k)
+unfolding rowLines sizing
 lines-sizing sh k =
     by (accepted sh && ltb k (layers sh))
-    (λ m. rw m (lines-size sh k, omega (arith, size-most sh k, accepted-yes sh (and-left (accepted sh) (ltb k (layers sh)) m) .small)))
-    (λ m. rw m (omega arith, omega arith))
+    (λ m.
+    let ok = accepted-yes sh (and-left (accepted sh) (ltb k (layers sh)) m) in
+    record { few = rw m (lines-few sh ok k); is = rw m (lines-size sh k); most = rw m (omega (arith, size-most sh k, ok .small)) })
+    (λ m. record { few = rw m (omega arith); is = rw m (omega arith); most = rw m (omega arith) })
 
-layer-lines-requires : tie.Need-layer-lines-requires
-layer-lines-requires c κs = search needs
+row-lines-requires : tie.Need-row-lines-requires
+row-lines-requires c κs = search needs
 
--- the product of the call's numbers
-product : (c : tie.After-layer-lines) → (let a = c .before in (c .layer-lines .result .lines * c .layer-lines .result .points ≡ sizing (a .args .shape) (a .args .layer)) × (sizing (a .args .shape) (a .args .layer) ≤ pointsMost))
-product c = let a = c .before in rw (c .layer-lines .ensures) (lines-sizing (a .args .shape) (a .args .layer))
+-- of the call's numbers
+sizes : (c : tie.After-row-lines) → (let a = c .before in Sizes (a .args .shape) (a .args .layer) (c .row-lines .result))
+sizes c = let a = c .before in rw (c .row-lines .ensures) (lines-sizing (a .args .shape) (a .args .layer))
 
 mul-result : tie.Need-mul-result
-mul-result c = omega (arith, product (c .before))
+mul-result c = omega (arith, sizes (c .before) .few)
+
+mul-result-2 : tie.Need-mul-result-2
+mul-result-2 c = omega (arith, sizes (c .before .before))
 
 returns : tie.Need-returns
-returns c = product (c .before) .0
+returns c = sizes (c .before .before) .is
 
 pub layer-size-spec : {M : Type 1} → statement M
-layer-size-spec = tie.close (tie.spec layer-lines-requires mul-result returns)
+layer-size-spec = tie.close (tie.spec row-lines-requires mul-result mul-result-2 returns)
