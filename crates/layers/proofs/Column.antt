@@ -15,7 +15,7 @@ use lib.IntN.{ℤ, pos}
 use lib.ListN.{length, replicate}
 use lib.Pow.{pow-pos}
 use lib.Seq.{ext-getD}
-use borrow.Author.Tests.{eqb-true, ne-eqb}
+use borrow.Author.Tests.{eqb-true, eq-eqb}
 use Rattle.layers.specs.declared.Shape.{Shape}
 use Rattle.layers.specs.declared.Curve.{Curve}
 use Rattle.layers.specs.declared.Direction.{Direction}
@@ -26,7 +26,7 @@ use Rattle.layers.specs.Layering.{Layering, layering, pointBy, layerBy, 
 use Rattle.layers.specs.Loops.{laid, Samples}
 use Rattle.integers.proofs.Bools.{by, and-no-left, and-no-right}
 use Rattle.layers.proofs.Accepting.{accepted-yes, accepted-by, two-three}
-use Rattle.layers.proofs.Earlier.{mult, odd}
+use Rattle.layers.proofs.Earlier.{mult, odd, even-not-odd}
 use Rattle.layers.proofs.Cover.{Turn, turn-direction, turn-spacing}
 use Rattle.layers.proofs.Lists.{length-tabulate, getD-tabulate, tabulate-same}
 
@@ -79,9 +79,9 @@ swap true true = refl
 swap true false = refl
 swap false b = refl
 
--- 0 is no odd multiple
+-- 0 is an even multiple, so no odd one
 zero-not-odd : (s : ℕ) → 0 < s → odd s 0 ≡ false
-zero-not-odd s some = rw (zero-mod (2 * s)) (ne-eqb 0 s (λ e. omega arith))
+zero-not-odd s some = even-not-odd s 0 some (eq-eqb _ _ (zero-mod (2 * s)))
 
 module _ (depth n levels : ℕ) where
   abbrev row : Shape

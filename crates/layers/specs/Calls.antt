@@ -70,7 +70,7 @@ quantizing sh curve e xs qs vs =
 unfoldable pub sizing : Shape → ℕ → ℕ
 sizing sh k = cond (accepted sh && ltb k (layers sh)) (layerSize sh k) 0
 
--- ---- a layer as lines; one that is not there has none
+-- ---- a layer as lines: its rows, joined where each has one point; a layer that is not there has none
 unfoldable pub rowLines : Shape → ℕ → Lines
 rowLines sh k =
     cond (accepted sh && ltb k (layers sh)) (linesOf sh k) (record { first = 0; sheets = 0; beyond = 0; lines = 0; apart = 0; points = 0; stride = 0 })

@@ -30,7 +30,7 @@ gridFor k Between s = record { layer = k; direction = Between; spacing = s; shee
 abbrev pub gridOf : Shape → ℕ → Grid
 gridOf sh k = gridFor k (direction sh k) (spacing sh k)
 
--- ---- the lines that cross row r of sheet z: its columns, or those from sheet to sheet for a layer between
+-- ---- the lines that cross row r of sheet z: its columns, or those from sheet to sheet for a layer between. Anchors and layers across ask for none
 abbrev pub columns : Shape → ℕ → ℕ → Crossing
 columns sh z r = record { start = place sh z 0 0; stride = sh .cols; count = sh .rows; place = r }
 
