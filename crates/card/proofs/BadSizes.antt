@@ -6,8 +6,8 @@ use native.Mathlib.Omega.{arith}
 use lib.Dec.{ltb, leb, eqb}
 use borrow.Author.Tests.{leb-true, leb-false, lt-ltb, le-ltb, eq-eqb, ne-eqb}
 use Rattle.integers.proofs.Bools.{by}
-use Rattle.layers.specs.Limits.{pointsMost}
-use Rattle.layers.specs.Sheet.{sized}
+use Rattle.sheet.specs.Limits.{pointsMost}
+use Rattle.sheet.specs.Sheet.{sized}
 use Rattle.card.specs.Writing.{badSizes}
 
 none : (n : ℕ) → eqb n 0 ≡ not (leb 1 n)

@@ -1,19 +1,19 @@
--- Reading, by what each step answers: the lengths and the plan are checked first, and a plan within the whole planes loads planes that are in the bytes; planes that are not fine are refused; fine ones give the coefficients of the words and the values rebuilt from them.
+-- Reading, by what each step answers: the lengths are checked first; what loading the planes answers is the reading once the values are rebuilt and the figure stands beside them, unless it is a refusal.
 use mathlib.Core.Bool.{Bool, true, false}
 use mathlib.Core.List.{List, _++_}
-use mathlib.Core.Path.{_≡_, sym, ap, _∙_}
+use mathlib.Core.Path.{_≡_, refl, sym, ap, _∙_}
 use Prim.Native.Nat.{ℕ, _-_, _<_, _≤_}
 use native.Mathlib.Omega.{arith}
-use borrow.Author.Tests.{ltb-false, lt-ltb, le-ltb, le-leb, eqb-true, eq-eqb, ne-eqb}
+use borrow.Author.Tests.{ltb-false, lt-ltb, le-ltb, le-leb, eq-eqb, ne-eqb}
 use lib.Dec.{ltb, eqb}
 use lib.IntN.{ℤ}
 use lib.ListN.{length, drop, length-append}
-use Rattle.integers.proofs.Bools.{by, and-left, and-right, and-both, not-yes}
+use Rattle.integers.proofs.Bools.{by, and-left, and-right, and-both}
 use Rattle.layers.specs.Calls.{settled, full, rebuildable, rebuilding}
 use Rattle.layers.specs.Layering.{layering, rebuilt}
-use Rattle.layers.specs.Limits.{layersMost, stepMost}
-use Rattle.layers.specs.Sheet.{points}
-use Rattle.layers.proofs.Lists.{length-tabulate}
+use Rattle.sheet.specs.Limits.{layersMost, stepMost}
+use Rattle.sheet.specs.Sheet.{points}
+use Rattle.layers.proofs.Answers.{full-yes, full-long}
 use Rattle.header.specs.declared.Header.{Header}
 use Rattle.header.specs.declared.Details.{Details}
 use Rattle.header.specs.declared.Opened.{Opened}
@@ -25,17 +25,16 @@ use Rattle.header.specs.Header.{planesOf, headerText}
 use Rattle.header.specs.Plan.{loads, firstOver}
 use Rattle.header.specs.Opening.{Opening, opening, right}
 use Rattle.header.specs.Opening as O
-use Rattle.header.specs.CardOrder.{whole, wholePlan, wholeIn}
-use Rattle.header.specs.Figure.{figureOf, boundOf}
-use Rattle.header.proofs.Over.{over-le, over-none, none-over}
-use Rattle.header.proofs.Rightness.{right-yes, layers-few}
-use Rattle.header.proofs.Whole.{whole-fits, whole-most, counted-whole}
+use Rattle.order.specs.CardOrder.{whole, wholeIn}
+use Rattle.figure.specs.Figure.{figureOf, boundOf}
+use Rattle.header.proofs.Over.{over-le}
+use Rattle.header.proofs.Rightness.{right-yes}
 use Rattle.header.proofs.Opens.{Opens, opened-right}
 use Rattle.header.proofs.Refusing.{opened-accepts}
-use Rattle.card.specs.Reading.{Reading, wholeOf, no, unless, slots, firstBad, coefsRead, readWhole, goodLengths, firstRefusal, afterOpening}
-use Rattle.card.specs.Words.{AllThere, loadedAs}
-use Rattle.card.specs.declared.Loaded.the-variants.{Fine, Bad}
-use Rattle.card.proofs.LayerPlanes.{whole-at, loaded-yes}
+use Rattle.loading.specs.Loading.{slots, firstBad, coefsRead}
+use Rattle.loading.specs.Calls.{Loading, told, loadable, loading, allWhole, wholeLoaded}
+use Rattle.loading.proofs.Loads.{coefs-long, loadable-by, whole-is, plan-within}
+use Rattle.card.specs.Reading.{Reading, wholeOf, no, unless, goodLengths, firstRefusal, readOpened, afterOpening, finished}
 
 -- ---- what a reading that is not refused answers
 abbrev pub readAs : Header → ℕ → List ℕ → Plan → Reading
@@ -48,108 +47,110 @@ readAs h long bs plan =
       values = rebuilt (layering (h .shape) (h .curve)) (h .step) (coefsRead h long bs (loads plan));
     }
 
-pub coefs-long : (h : Header) (long : ℕ) (bs : List ℕ) (plan : ℕ → ℕ) → length (coefsRead h long bs plan) ≡ points (h .shape)
-unfolding coefsRead
-coefs-long h long bs plan = length-tabulate (points (h .shape)) _
-
 -- ---- the calls that reading makes, behind a right header
 module _ (h : Header) (r : right h ≡ true) where
-  pub rebuilt-is : (qs vs : List ℤ) → length qs ≡ points (h .shape) → length vs ≡ points (h .shape)
+  rebuilt-is : (qs vs : List ℤ) → length qs ≡ points (h .shape) → length vs ≡ points (h .shape)
       → rebuilding (h .shape) (h .curve) (h .step) qs vs ≡ rebuilt (layering (h .shape) (h .curve)) (h .step) qs
   unfolding rebuilding rebuildable settled full
   rebuilt-is qs vs q v =
       let s = right-yes h r in
       rw (s .shape, le-leb (h .step) stepMost (s .step), eq-eqb (length qs) (points (h .shape)) q, eq-eqb (length vs) (points (h .shape)) v)
 
-  pub bound-right : (plan : Plan) → firstOver (planesOf h) (loads plan) ≡ layersMost → boundOf h plan ≡ figureOf h (loads plan)
+  bound-right : (plan : Plan) → firstOver (planesOf h) (loads plan) ≡ layersMost → boundOf h plan ≡ figureOf h (loads plan)
   unfolding boundOf
   bound-right plan e = rw (r, eq-eqb (firstOver (planesOf h) (loads plan)) layersMost e)
-
-  pub whole-is : (n : ℕ) → wholeIn h n ≡ wholePlan h n
-  unfolding wholeIn
-  whole-is n = rw r
 
 -- ---- the lengths of the slices
 module _ (qs vs : List ℤ) (h : Header) where
   abbrev fills : List ℤ → Bool
-  fills l = eqb (length l) (points (h .shape))
+  fills l = full (h .shape) l
 
   pub lengths-good : length qs ≡ points (h .shape) → length vs ≡ points (h .shape) → goodLengths qs vs h ≡ true
-  lengths-good q v = and-both (fills qs) (fills vs) (eq-eqb _ _ q) (eq-eqb _ _ v)
+  lengths-good q v = and-both (fills qs) (fills vs) (full-yes (h .shape) qs q) (full-yes (h .shape) vs v)
 
   pub good-lengths : goodLengths qs vs h ≡ true → (length qs ≡ points (h .shape)) × (length vs ≡ points (h .shape))
-  good-lengths g = (eqb-true _ _ (and-left (fills qs) (fills vs) g), eqb-true _ _ (and-right (fills qs) (fills vs) g))
+  good-lengths g = (full-long (h .shape) qs (and-left (fills qs) (fills vs) g), full-long (h .shape) vs (and-right (fills qs) (fills vs) g))
 
-  pub lengths-wrong : (length qs ≡ points (h .shape) → length vs ≡ points (h .shape) → ⊥) → goodLengths qs vs h ≡ false
-  lengths-wrong n = not-yes (goodLengths qs vs h) (λ g. n (good-lengths g .0) (good-lengths g .1))
+  -- as the code asks it, of n points
+  module _ (n : ℕ) (e : n ≡ points (h .shape)) where
+    pub lengths-by : length qs ≡ n → eqb (length vs) n ≡ goodLengths qs vs h
+    unfolding full
+    lengths-by q = rw (e, eq-eqb (length qs) (points (h .shape)) (q ∙ e))
 
--- ---- the planes of a plan
-bad-fine : {k : ℕ} → Bad k ≡ Fine → ⊥
-bad-fine e = let z : _≡_ {A = ℕ} 0 1 = cc in omega arith
+    pub lengths-differ : (length qs ≡ n → ⊥) → eqb (length qs) n ≡ goodLengths qs vs h
+    unfolding full
+    lengths-differ d = rw (e, ne-eqb (length qs) (points (h .shape)) (λ q. d (q ∙ sym e)))
 
-fine-bad : {k : ℕ} → Fine ≡ Bad k → ⊥
-fine-bad e = let z : _≡_ {A = ℕ} 0 1 = cc in omega arith
+-- ---- what follows the planes
+pub finished-yes : (r : Refusal) → r ≡ F.Accepted → (h : Header) (plan : Plan) (qs vs v : List ℤ) (n : ℕ) → v ≡ rebuilding (h .shape) (h .curve) (h .step) qs vs → n ≡ boundOf h plan
+    → record { refused = detailsOf r; plan = plan; figure = n; coefficients = qs; values = v } ≡ finished (detailsOf r) h plan qs vs
+unfolding finished
+finished-yes r y h plan qs vs v n a b = rw y (λ i. record { refused = refusal 0 0 0; plan = plan; figure = b i; coefficients = qs; values = a i })
 
-bad-same : {j k : ℕ} → Bad j ≡ Bad k → j ≡ k
-bad-same e = cc
+module _ (h : Header) (r : right h ≡ true) (plan : Plan) (e : firstOver (planesOf h) (loads plan) ≡ layersMost)
+    (qs vs : List ℤ) (q : length qs ≡ points (h .shape)) (v : length vs ≡ points (h .shape)) where
+  pub finished-is : finished (refusal 0 0 0) h plan qs vs
+      ≡ record { refused = refusal 0 0 0; plan = plan; figure = figureOf h (loads plan); coefficients = qs; values = rebuilt (layering (h .shape) (h .curve)) (h .step) qs }
+  unfolding finished
+  finished-is i = record { refused = refusal 0 0 0; plan = plan; figure = bound-right h r plan e i; coefficients = qs; values = rebuilt-is h r qs vs q v i }
 
-module _ (h : Header) (long : ℕ) (bs : List ℕ) (plan : Plan) (qs vs : List ℤ) where
-  abbrev slot : ℕ
-  slot = firstBad h long bs (loads plan)
+-- ---- loaded planes, finished, are the reading
+module _ (h : Header) (r : right h ≡ true) (long : ℕ) (bs : List ℕ) (here : long ≤ length bs) (qs vs : List ℤ) where
+  pub read-short : goodLengths qs vs h ≡ false → (plan : Plan) → no qs vs (refusal 3 0 0) ≡ readOpened qs vs bs h long plan
+  unfolding readOpened firstRefusal
+  read-short n plan = rw n
 
-  abbrev all : ℕ
-  all = slots h long bs (loads plan)
+  module _ (good : goodLengths qs vs h ≡ true) where
+    pub can-load : loadable qs bs h long ≡ true
+    can-load = loadable-by qs bs h long r here ∙ and-left (full (h .shape) qs) (full (h .shape) vs) good
 
-  pub read-bad : (k : ℕ) → Bad k ≡ loadedAs h long bs (loads plan) → no qs vs (refusal 8 k 0) ≡ readWhole qs vs h long bs plan slot
-  read-bad k e =
-      by (ltb slot all)
-      (λ t. rw t (ap (λ (j : ℕ). no qs vs (refusal 8 j 0)) (bad-same (rw t at e))))
-      (λ t. absurd (bad-fine (rw t at e)))
+    module _ (plan : Plan) where
+      abbrev asked : ℕ
+      asked = firstOver (loads (wholeOf bs h long)) (loads plan)
 
-  pub read-fine : Fine ≡ loadedAs h long bs (loads plan) → readAs h long bs plan ≡ readWhole qs vs h long bs plan slot
-  read-fine e = by (ltb slot all) (λ t. absurd (fine-bad (rw t at e))) (λ t. rw t)
+      abbrev bad : ℕ
+      bad = firstBad h long bs (loads plan)
 
--- the slices that the calls leave
-module _ (h : Header) (long : ℕ) (bs : List ℕ) (plan : Plan) (qs vs : List ℤ)
-    (r : right h ≡ true) (good : goodLengths qs vs h ≡ true) (e : firstOver (planesOf h) (loads plan) ≡ layersMost) where
-  pub read-done : Fine ≡ loadedAs h long bs (loads plan) → (q v : List ℤ) (n : ℕ)
-      → q ≡ coefsRead h long bs (loads plan) → v ≡ rebuilding (h .shape) (h .curve) (h .step) q vs → n ≡ boundOf h plan
-      → record { refused = refusal 0 0 0; plan = plan; figure = n; coefficients = q; values = v } ≡ readWhole qs vs h long bs plan (firstBad h long bs (loads plan))
-  read-done fine q v n eq ev en =
-      let sh = h .shape in
-      let many : length q ≡ points sh = ap length eq ∙ coefs-long h long bs (loads plan) in
-      let figures : n ≡ figureOf h (loads plan) = en ∙ bound-right h r plan e in
-      let vals : v ≡ rebuilt (layering sh (h .curve)) (h .step) (coefsRead h long bs (loads plan)) = ev ∙ rebuilt-is h r q vs many (good-lengths qs vs h good .1) ∙ ap (rebuilt (layering sh (h .curve)) (h .step)) eq in
-      _∙_ {b = readAs h long bs plan}
-      (λ i. record { refused = refusal 0 0 0; plan = plan; figure = figures i; coefficients = eq i; values = vals i })
-      (read-fine h long bs plan qs vs fine)
+      finished-read : finished (loading qs bs h long plan .refused) h plan (loading qs bs h long plan .coefficients) vs ≡ readOpened qs vs bs h long plan
+      unfolding readOpened firstRefusal loading
+      finished-read =
+          by (ltb asked layersMost)
+          (λ t. rw (good, can-load, t) (unfold finished in refl))
+          (λ t. by (ltb bad (slots h long bs (loads plan)))
+          (λ u. rw (good, can-load, t, u) (unfold finished in refl))
+          (λ u. rw (good, can-load, t, u)
+          (let within : asked ≡ layersMost = omega (arith, ltb-false asked layersMost t, over-le (loads (wholeOf bs h long)) (loads plan)) in
+          finished-is h r plan (plan-within h r long bs plan here within) (coefsRead h long bs (loads plan)) vs (coefs-long h long bs (loads plan)) (good-lengths qs vs h good .1))))
 
--- ---- a plan within the whole planes
-module _ (h : Header) (long : ℕ) (bs : List ℕ) (plan : Plan) (e : firstOver (loads (wholePlan h (length bs - long))) (loads plan) ≡ layersMost) where
-  pub within : (k : ℕ) → k < layersMost → loads plan k ≤ whole h (length bs - long) k
-  within k l = omega (arith, over-none (loads (wholePlan h (length bs - long))) (loads plan) e k l, whole-at h (length bs - long) k l)
+      pub loaded-read : (refusal : Refusal) (q : List ℤ) → told refusal q ≡ loading qs bs h long plan → finished (detailsOf refusal) h plan q vs ≡ readOpened qs vs bs h long plan
+      loaded-read refusal q x = ap (λ (l : Loading). finished (l .refused) h plan (l .coefficients) vs) x ∙ finished-read
 
-module _ (h : Header) (r : right h ≡ true) (long : ℕ) (bs : List ℕ) (plan : Plan) (here : long ≤ length bs)
-    (e : firstOver (loads (wholePlan h (length bs - long))) (loads plan) ≡ layersMost) where
-  pub plan-within : firstOver (planesOf h) (loads plan) ≡ layersMost
-  plan-within = none-over (planesOf h) (loads plan) (λ k l. omega (arith, within h long bs plan e k l, whole-most h (length bs - long) k))
+    -- with all whole planes: beside a refusal the plan does not matter
+    plan-read : eqb (allWhole qs bs h long .refused .number) 0 ≡ true → wholeLoaded qs bs h long ≡ wholeOf bs h long
+    unfolding wholeLoaded
+    plan-read z = rw z
 
-  pub all-there : AllThere h long bs (loads plan)
-  all-there k p hk t =
-      let l = loaded-yes h long bs (loads plan) k p t in
-      let few = layers-few (right-yes h r) in
-      let n = length bs - long in
-      let w = counted-whole h n k hk p (l .0) (omega (arith, l .1, within h long bs plan e k (omega arith))) in
-      omega (arith, whole-fits h n k p w)
+    refused-same : (d : Details) (p p′ : Plan) (q : List ℤ) → eqb (d .number) 0 ≡ false → finished d h p q vs ≡ finished d h p′ q vs
+    unfolding finished
+    refused-same d p p′ q z = rw z
+
+    pub whole-read : (refusal : Refusal) (q : List ℤ) (plan : Plan) → told refusal q ≡ allWhole qs bs h long → plan ≡ wholeLoaded qs bs h long
+        → finished (detailsOf refusal) h plan q vs ≡ readOpened qs vs bs h long (wholeOf bs h long)
+    whole-read refusal q plan x y =
+        let d = detailsOf refusal in
+        let number-is : eqb (d .number) 0 ≡ true → eqb (allWhole qs bs h long .refused .number) 0 ≡ true = λ z. ap (λ (l : Loading). eqb (l .refused .number) 0) (sym x) ∙ z in
+        by (eqb (d .number) 0)
+        (λ z. ap (λ (p : Plan). finished d h p q vs) (y ∙ plan-read (number-is z)) ∙ loaded-read (wholeOf bs h long) refusal q x)
+        (λ z. refused-same d plan (wholeOf bs h long) q z ∙ loaded-read (wholeOf bs h long) refusal q x)
 
 -- ---- what is checked: the lengths, then the plan
 module _ (qs vs : List ℤ) (h : Header) (whole plan : Plan) where
   abbrev over : ℕ
   over = firstOver (loads whole) (loads plan)
 
-  pub checked-lengths : (length qs ≡ points (h .shape) → length vs ≡ points (h .shape) → ⊥) → refusal 3 0 0 ≡ firstRefusal qs vs h whole plan
+  pub checked-lengths : goodLengths qs vs h ≡ false → refusal 3 0 0 ≡ firstRefusal qs vs h whole plan
   unfolding firstRefusal
-  checked-lengths n = rw (lengths-wrong qs vs h n)
+  checked-lengths n = rw n
 
   module _ (good : goodLengths qs vs h ≡ true) where
     pub checked-over : over < layersMost → refusal 9 over 0 ≡ firstRefusal qs vs h whole plan

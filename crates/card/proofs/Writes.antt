@@ -2,29 +2,33 @@
 use mathlib.Core.Path.{_≡_, refl, sym, ap, _∙_}
 use mathlib.Core.Bool.{Bool, true, false, _&&_}
 use mathlib.Core.List.{List, _++_}
-use Prim.Native.Nat.{ℕ, _<_, _≤_}
+use Prim.Native.Nat.{ℕ, _+_, _<_, _≤_}
 use native.Mathlib.Decide.{decLt}
 use native.Mathlib.Omega.{arith}
-use lib.Dec.{ltb, leb, eqb}
+use lib.Dec.{ltb, leb}
 use lib.IntN.{ℤ, pos}
 use lib.ListN.{length, drop, List·getD-eq-default}
-use borrow.Author.Tests.{not-false, lt-ltb, le-ltb, le-leb, lt-leb, eq-eqb, ne-eqb}
+use lib.Seq.{sets, sets-eq}
+use Rattle.text.specs.Text.{after, putting}
+use Rattle.text.proofs.Fitting.{put-fits}
+use borrow.Author.Tests.{not-false, lt-ltb, le-ltb, le-leb, lt-leb}
 use Rattle.integers.proofs.Bools.{and-both, and-no-left, and-no-right, or-left, or-right}
 use Rattle.digits.specs.Digits.{holds}
 use Rattle.digits.proofs.Range.{holds-by, range-23}
-use Rattle.layers.specs.declared.Shape.{Shape}
-use Rattle.layers.specs.declared.Curve.{Curve}
+use Rattle.sheet.specs.declared.Shape.{Shape}
+use Rattle.sheet.specs.declared.Curve.{Curve}
 use Rattle.layers.specs.declared.Scan.{Scan}
 use Rattle.layers.specs.declared.Scan.the-variants.{Clear, OutAt}
 use Rattle.layers.specs.declared.Quantized.{Quantized}
 use Rattle.layers.specs.declared.Quantized.the-variants.{Done, Refused, OutOfRange}
-use Rattle.layers.specs.Limits.{levelsMost, stepMost}
-use Rattle.layers.specs.Lists.{at}
-use Rattle.layers.specs.Sheet.{sized, accepted, points}
+use Rattle.sheet.specs.Limits.{levelsMost, stepMost}
+use Rattle.sheet.specs.Lists.{at}
+use Rattle.sheet.specs.Sheet.{sized, accepted, points}
 use Rattle.layers.specs.Layering.{layering, coefs}
 use Rattle.layers.specs.Loops.{Samples}
 use Rattle.layers.specs.Calls as C
-use Rattle.layers.proofs.Answers.{samples-by, right, after-scan}
+use Rattle.layers.specs.Calls.{full}
+use Rattle.layers.proofs.Answers.{samples-by, full-yes, full-no, right, after-scan}
 use Rattle.layers.proofs.Law.{length-coefs}
 use Rattle.layers.proofs.Range.{coefs-reach}
 use Rattle.header.specs.declared.Refusal.{Refusal}
@@ -33,11 +37,17 @@ use Rattle.header.specs.declared.Details.{Details}
 use Rattle.header.specs.Refusals.{refusal, detailsOf}
 use Rattle.header.specs.Header.{placesMost}
 use Rattle.card.specs.declared.Written.{Written}
-use Rattle.card.specs.Planes.{cardOf}
+use Rattle.header.proofs.TextLength.{card-fits}
+use Rattle.packing.specs.Planes.{headerFor, cardOf, allHeld}
+use Rattle.packing.specs.Calls.{cardFor}
+use Rattle.packing.proofs.All.{all-by}
+use Rattle.packing.proofs.BodyOrder.{body-length}
+use Rattle.packing.proofs.Cards.{header-right, card-length}
+use Rattle.packing.proofs.FlatPlanes.{zero-holds}
+use Rattle.header.proofs.Rightness.{few-planes}
 use Rattle.card.specs.Writing.{outputLeast, badSizes, Writing, afterScan, badSettings, goodLengths, writing, told}
 use Rattle.card.specs.Writing as Wr
 use Rattle.card.proofs.BadSizes.{bad-sizes}
-use Rattle.card.proofs.FlatPlanes.{zero-holds}
 
 abbrev made : Details → ℕ → List ℤ → List ℤ → List ℕ → Writing
 made d n q v o = record { refused = d; long = n; coefficients = q; values = v; output = o }
@@ -49,6 +59,16 @@ made-same d d′ n n′ q q′ v v′ o o′ a b c e f =
     ∙ ap (λ (x : List ℤ). made d′ n′ x v o) c
     ∙ ap (λ (x : List ℤ). made d′ n′ q′ x o) e
     ∙ ap (λ (x : List ℕ). made d′ n′ q′ v′ x) f
+
+-- THE CARD FITS
+card-most : (sh : Shape) → accepted sh ≡ true → (qs : List ℤ) (curve : Curve) (e : ℕ) → e ≤ stepMost → length (cardOf sh curve e qs) ≤ outputLeast
+card-most sh ok qs curve e step =
+    let h = header-right sh ok qs curve e step in
+    omega (arith, card-length sh ok qs curve e step, card-fits h, body-length (headerFor sh curve e qs) qs (few-planes h))
+
+-- a run at the front
+sets-front : (d a : List ℕ) → length a ≤ length d → sets d 0 a ≡ a ++ drop (length a) d
+sets-front d a h = let z : 0 + length a ≡ length a = omega arith in sets-eq a d 0 (omega arith) ∙ ap (λ (n : ℕ). a ++ drop n d) z
 
 -- "23 digits .. enough for every accepted sheet"
 pub coefs-hold : {sh : Shape} {e : ℕ} {xs : List ℤ} → Samples sh e xs → (curve : Curve) (p : ℕ) → p < points sh → holds placesMost (at (coefs (layering sh curve) e xs) p) ≡ true
@@ -88,22 +108,22 @@ module _ (xs : List ℤ) (sh : Shape) (curve : Curve) (e : ℕ) (qs vs : List �
       pts = points sh
 
       abbrev front : Bool
-      front = eqb (length xs) pts && eqb (length qs) pts
+      front = full sh xs && full sh qs
 
       abbrev back : Bool
-      back = eqb (length vs) pts && leb outputLeast (length out)
+      back = full sh vs && leb outputLeast (length out)
 
       pub short-samples : (length xs ≡ pts → ⊥) → goodLengths xs sh curve e qs vs out ≡ false
-      short-samples h = and-no-left front back (and-no-left (eqb (length xs) pts) (eqb (length qs) pts) (ne-eqb _ _ h))
+      short-samples h = and-no-left front back (and-no-left (full sh xs) (full sh qs) (full-no sh xs h))
 
       pub short-coefficients : (length qs ≡ pts → ⊥) → goodLengths xs sh curve e qs vs out ≡ false
-      short-coefficients h = and-no-left front back (and-no-right (eqb (length xs) pts) (eqb (length qs) pts) (ne-eqb _ _ h))
+      short-coefficients h = and-no-left front back (and-no-right (full sh xs) (full sh qs) (full-no sh qs h))
 
       pub short-values : (length vs ≡ pts → ⊥) → goodLengths xs sh curve e qs vs out ≡ false
-      short-values h = and-no-right front back (and-no-left (eqb (length vs) pts) (leb outputLeast (length out)) (ne-eqb _ _ h))
+      short-values h = and-no-right front back (and-no-left (full sh vs) (leb outputLeast (length out)) (full-no sh vs h))
 
       pub short-output : length out < outputLeast → goodLengths xs sh curve e qs vs out ≡ false
-      short-output h = and-no-right front back (and-no-right (eqb (length vs) pts) (leb outputLeast (length out)) (lt-leb _ _ h))
+      short-output h = and-no-right front back (and-no-right (full sh vs) (leb outputLeast (length out)) (lt-leb _ _ h))
 
       -- a sheet by itself has then passed every test of its shape
       pub shape-accepted : sh .depth ≡ 1 → accepted sh ≡ true
@@ -118,8 +138,8 @@ module _ (xs : List ℤ) (sh : Shape) (curve : Curve) (e : ℕ) (qs vs : List �
         pub good-lengths : goodLengths xs sh curve e qs vs out ≡ true
         good-lengths =
             and-both front back
-            (and-both (eqb (length xs) pts) (eqb (length qs) pts) (eq-eqb _ _ hx) (eq-eqb _ _ hq))
-            (and-both (eqb (length vs) pts) (leb outputLeast (length out)) (eq-eqb _ _ hv) (le-leb _ _ ho))
+            (and-both (full sh xs) (full sh qs) (full-yes sh xs hx) (full-yes sh qs hq))
+            (and-both (full sh vs) (leb outputLeast (length out)) (full-yes sh vs hv) (le-leb _ _ ho))
 
         writes : writing xs sh curve e qs vs out ≡ afterScan xs sh curve e qs vs out (C.scanned (sh .cols) xs)
         unfolding writing
@@ -166,7 +186,7 @@ module _ (xs : List ℤ) (sh : Shape) (curve : Curve) (e : ℕ) (qs vs : List �
               made-same (detailsOf (w .refusal)) (refusal 4 r c) (w .length) 0 q qs v vs out out (ap detailsOf a ∙ ap outDetails f) b g h refl
 
         -- all are in range
-        pub coefs-held : (q : List ℤ) → Done ≡ Q .answer → q ≡ Q .coefficients → (length q ≡ points sh) × ((p : ℕ) → holds placesMost (at q p) ≡ true)
+        coefs-held : (q : List ℤ) → Done ≡ Q .answer → q ≡ Q .coefficients → (length q ≡ points sh) × ((p : ℕ) → holds placesMost (at q p) ≡ true)
         coefs-held q x y = go (C.scanned (sh .cols) xs) refl (answered _ x) (left-coefs q y) where
           go : (s : Scan) → C.scanned (sh .cols) xs ≡ s → Done ≡ C.afterScan sh curve e xs qs vs s .answer → q ≡ C.afterScan sh curve e xs qs vs s .coefficients
               → (length q ≡ points sh) × ((p : ℕ) → holds placesMost (at q p) ≡ true)
@@ -184,12 +204,29 @@ module _ (xs : List ℤ) (sh : Shape) (curve : Curve) (e : ℕ) (qs vs : List �
               long : length (coefs (layering sh curve) e xs) ≡ points sh
               long = length-coefs (layering sh curve) e xs
 
-        pub card-told : (q v : List ℤ) (r : ℕ) (o : List ℕ) → Done ≡ Q .answer → q ≡ Q .coefficients → v ≡ Q .values → r ≡ length (cardOf sh curve e q)
-            → o ≡ cardOf sh curve e q ++ drop (length (cardOf sh curve e q)) out → told (record { refusal = R.Accepted; length = r }) q v o ≡ writing xs sh curve e qs vs out
+        -- the coefficients make a card, and it fits
+        is-card : (q : List ℤ) → length q ≡ points sh → ((p : ℕ) → holds placesMost (at q p) ≡ true) → cardFor sh curve e q ≡ cardOf sh curve e q
+        unfolding cardFor allHeld
+        is-card q long held = rw (is-settled, full-yes sh q long, all-by (λ j. holds placesMost (at q j)) (length q) (λ j _. held j))
+
+        card-put : (q : List ℤ) → Done ≡ Q .answer → q ≡ Q .coefficients → (r : ℕ) (o : List ℕ) → r ≡ after out 0 (cardFor sh curve e q) → o ≡ putting out 0 (cardFor sh curve e q)
+            → (r ≡ length (cardOf sh curve e q)) × (o ≡ cardOf sh curve e q ++ drop (length (cardOf sh curve e q)) out)
+        card-put q x y r o a b =
+            let held = coefs-held q x y in
+            let card : cardFor sh curve e q ≡ cardOf sh curve e q = is-card q (held .0) (held .1) in
+            let short : length (cardOf sh curve e q) ≤ length out = omega (arith, card-most sh ok q curve e s) in
+            let fits = put-fits out 0 (cardOf sh curve e q) (omega arith) in
+            (omega (arith, a, ap (after out 0) card, fits .0), b ∙ ap (putting out 0) card ∙ fits .1 ∙ sets-front out (cardOf sh curve e q) short)
+
+        pub card-told : (q v : List ℤ) (r : ℕ) (o : List ℕ) → Done ≡ Q .answer → q ≡ Q .coefficients → v ≡ Q .values → r ≡ after out 0 (cardFor sh curve e q)
+            → o ≡ putting out 0 (cardFor sh curve e q) → told (record { refusal = R.Accepted; length = r }) q v o ≡ writing xs sh curve e qs vs out
         card-told q v r o x y z a b = go (C.scanned (sh .cols) xs) (answered _ x) (left-coefs q y) (left-values v z) ∙ sym writes where
+          put : (r ≡ length (cardOf sh curve e q)) × (o ≡ cardOf sh curve e q ++ drop (length (cardOf sh curve e q)) out)
+          put = card-put q x y r o a b
+
           go : (s : Scan) → Done ≡ C.afterScan sh curve e xs qs vs s .answer → q ≡ C.afterScan sh curve e xs qs vs s .coefficients → v ≡ C.afterScan sh curve e xs qs vs s .values
               → told (record { refusal = R.Accepted; length = r }) q v o ≡ afterScan xs sh curve e qs vs out s
           go (OutAt r c) f g h = absurd (let z : _≡_ {A = ℕ} 0 1 = cc in omega arith)
           go Clear f g h =
-              made-same (refusal 0 0 0) (refusal 0 0 0) r _ q _ v _ o _ refl (a ∙ ap (λ (x : List ℤ). length (cardOf sh curve e x)) g) g h
-              (b ∙ ap (λ (x : List ℤ). cardOf sh curve e x ++ drop (length (cardOf sh curve e x)) out) g)
+              made-same (refusal 0 0 0) (refusal 0 0 0) r _ q _ v _ o _ refl (put .0 ∙ ap (λ (x : List ℤ). length (cardOf sh curve e x)) g) g h
+              (put .1 ∙ ap (λ (x : List ℤ). cardOf sh curve e x ++ drop (length (cardOf sh curve e x)) out) g)

@@ -1,5 +1,3 @@
-pub mod Planes
 pub mod Writing
 pub mod Reading
 pub mod Refining
-pub mod Words

@@ -1,37 +1,22 @@
 -- Refining (document 01, "Reading and refining" and "When the box says no").
-use mathlib.Core.Bool.{Bool, cond, _&&_}
+use mathlib.Core.Bool.{cond, _&&_}
 use mathlib.Core.List.{List}
 use Prim.Native.Nat.{ℕ, suc, _-_}
 use lib.Dec.{ltb}
-use lib.IntN.{ℤ, pos, _+ℤ_, _*ℤ_}
-use lib.ListN.{length}
-use Rattle.digits.specs.Digits.{holds, weight}
-use Rattle.layers.specs.declared.Shape.{Shape}
-use Rattle.layers.specs.Lists.{at, tabulate}
-use Rattle.layers.specs.Sheet.{layers, inLayer, placeIn}
+use lib.IntN.{ℤ}
+use Rattle.sheet.specs.Sheet.{layers}
 use Rattle.layers.specs.Layering.{layering, rebuilt}
 use Rattle.header.specs.declared.Header.{Header}
 use Rattle.header.specs.declared.Plan.{Plan}
 use Rattle.header.specs.Refusals.{refusal}
-use Rattle.header.specs.Header.{placesMost, planesOf}
+use Rattle.header.specs.Header.{planesOf}
 use Rattle.header.specs.Plan.{loads, withPlane}
 use Rattle.header.specs.Opening.{opening}
-use Rattle.header.specs.Figure.{figureOf}
-use Rattle.card.specs.Planes.{allBelow}
-use Rattle.card.specs.Reading.{Reading, bitOf, fine}
+use Rattle.figure.specs.Figure.{figureOf}
+use Rattle.packing.specs.Planes.{allHeld}
+use Rattle.loading.specs.Loading.{fine, coefsWith}
+use Rattle.card.specs.Reading.{Reading}
 use Rattle.card.specs.Reading as R
-
--- "11, a coefficient outside the 23-digit range"
-unfoldable pub allHeld : List ℤ → Bool
-allHeld qs = allBelow (λ j. holds placesMost (at qs j)) (length qs)
-
--- the coefficients with the digits of a plane at place p of layer k added: each point's digit adds its weight
-unfoldable pub coefsPlus : Shape → ℕ → ℕ → (ℕ → ℕ) → List ℤ → List ℤ
-coefsPlus sh k p digit qs =
-    tabulate (length qs) (λ j. cond (inLayer sh k j) (at qs j +ℤ pos (digit (placeIn sh k j)) *ℤ weight p) (at qs j))
-
-abbrev pub coefsWith : Header → ℕ → List ℕ → ℕ → ℕ → List ℤ → List ℤ
-coefsWith h long bs k p qs = coefsPlus (h .shape) k p (bitOf h long bs k p) qs
 
 module _ (qs vs : List ℤ) where
   -- "8 for the new plane (detail: its layer)"

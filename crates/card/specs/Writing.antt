@@ -5,18 +5,17 @@ use Prim.Native.Nat.{ℕ, _*_}
 use lib.Dec.{ltb, leb, eqb}
 use lib.IntN.{ℤ}
 use lib.ListN.{length, drop}
-use Rattle.layers.specs.declared.Shape.{Shape}
-use Rattle.layers.specs.declared.Curve.{Curve}
+use Rattle.sheet.specs.declared.Shape.{Shape}
+use Rattle.sheet.specs.declared.Curve.{Curve}
 use Rattle.layers.specs.declared.Scan.{Scan}
 use Rattle.layers.specs.declared.Scan.the-variants.{Clear, OutAt}
-use Rattle.layers.specs.Limits.{pointsMost, levelsMost, stepMost}
-use Rattle.layers.specs.Sheet.{points}
+use Rattle.sheet.specs.Limits.{pointsMost, levelsMost, stepMost}
 use Rattle.layers.specs.Layering.{layering, written, coefs}
-use Rattle.layers.specs.Calls.{scanned}
+use Rattle.layers.specs.Calls.{full, scanned}
 use Rattle.header.specs.declared.Details.{Details}
 use Rattle.header.specs.Refusals.{refusal, detailsOf}
 use Rattle.card.specs.declared.Written.{Written}
-use Rattle.card.specs.Planes.{cardOf}
+use Rattle.packing.specs.Planes.{cardOf}
 
 -- "output under 32,768 bytes"
 abbrev pub outputLeast : ℕ
@@ -61,7 +60,7 @@ module _ (xs : List ℤ) (sh : Shape) (curve : Curve) (e : ℕ) (qs vs : List �
   -- "3, sheet, coefficients (i32) or values (i64) not R × C long, or output under 32,768 bytes."
   abbrev pub goodLengths : Bool
   goodLengths =
-      (eqb (length xs) (points sh) && eqb (length qs) (points sh)) && (eqb (length vs) (points sh) && leb outputLeast (length out))
+      (full sh xs && full sh qs) && (full sh vs && leb outputLeast (length out))
 
   unfoldable pub writing : Writing
   writing =

@@ -10,7 +10,7 @@ use lib.Dec.{ltb, eqb}
 use lib.IntN.{ℤ, pos}
 use lib.ListN.{length, length-replicate}
 use Rattle.integers.proofs.Bools.{by}
-use Rattle.layers.specs.Sheet.{points}
+use Rattle.sheet.specs.Sheet.{points}
 use Rattle.layers.specs.Layering.{layering}
 use Rattle.layers.proofs.Law.{length-rebuilt}
 use Rattle.text.specs.Line.{lineText}
@@ -18,7 +18,8 @@ use Rattle.header.specs.declared.Header.{Header}
 use Rattle.header.specs.Header.{ascii}
 use Rattle.header.specs.Plan.{loads}
 use Rattle.header.specs.Opening.{opening}
-use Rattle.card.specs.Reading.{showing, readOpened, firstRefusal, wholeOf, firstBad, slots, coefsRead}
+use Rattle.loading.specs.Loading.{firstBad, slots, coefsRead}
+use Rattle.card.specs.Reading.{showing, readOpened, firstRefusal, wholeOf}
 use Rattle.card.proofs.ReadCall.{good-lengths, checked-passes}
 use Rattle.display.specs.declared.Shown.{Shown}
 use Rattle.display.specs.Shown.{loadedText, rowsText, textOf, room, seen, shownOf, valuesOf, shownText, valuePiece, sheetLines, pieceAt, pieces, inOrder}

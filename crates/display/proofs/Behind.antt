@@ -1,11 +1,11 @@
 -- Text put behind text: a run put behind a run is one run (`sets-sets`), and what is put behind a text takes the place of zeros (`padded-more`).
 use mathlib.Core.List.{List, [], _++_}
 use mathlib.Core.Path.{_≡_, sym, ap, ap₂, _∙_}
-use Prim.Native.Nat.{ℕ, _+_, _≤_}
+use Prim.Native.Nat.{ℕ, _≤_}
 use native.Mathlib.Omega.{arith}
 use lib.ListN.{length, length-append}
 use Rattle.text.proofs.Padding.{padded-room, padded-more}
-use Rattle.header.proofs.Stores.{sets-sets}
+use Rattle.text.proofs.Stores.{sets-sets}
 use Rattle.display.specs.declared.Piece.{Piece}
 use Rattle.display.specs.Shown.{pieceMost, pieceOf, extended}
 

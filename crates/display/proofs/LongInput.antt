@@ -9,27 +9,30 @@ use native.Mathlib.Omega.{arith}
 use borrow.Author.Tests.{lt-ltb}
 use lib.ListN.{length, take, drop, getD, length-append, length-take, length-drop}
 use lib.Seq.{drop-append-le}
-use Rattle.layers.specs.declared.Shape.{Shape}
-use Rattle.layers.specs.declared.Curve.{Curve}
-use Rattle.layers.specs.Limits.{pointsMost, levelsMost, layersMost, stepMost}
-use Rattle.layers.specs.Sheet.{accepted, sheetOf, layers}
-use Rattle.layers.proofs.Accepting.{accepted-by, accepted-yes, layers-few}
+use Rattle.sheet.specs.declared.Shape.{Shape}
+use Rattle.sheet.specs.declared.Curve.{Curve}
+use Rattle.sheet.specs.Limits.{pointsMost, levelsMost, layersMost, stepMost}
+use Rattle.sheet.specs.Sheet.{accepted, sheetOf, layers}
+use Rattle.sheet.proofs.Accepting.{accepted-by, accepted-yes, layers-few}
 use Rattle.text.specs.declared.Line.{Line}
 use Rattle.text.specs.declared.Line.the-variants as L
-use Rattle.text.specs.Line.{newline, before, starts, lineAt}
+use Rattle.text.specs.Text.{padded}
+use Rattle.text.specs.Line.{newline, before, starts, hasEnd, lineAt}
+use Rattle.text.specs.Joined.{numbersIn}
 use Rattle.text.proofs.Digits.{length-le}
+use Rattle.text.proofs.Joins.{joined-length}
 use Rattle.text.proofs.Lines.{Written, written}
 use Rattle.header.specs.declared.Header.{Header}
 use Rattle.header.specs.Refusals.{refusal}
 use Rattle.header.specs.Header.{asciiFrom, ascii, cellBytes, cellsMost, cellsOf}
-use Rattle.header.specs.Opening.{Opening, no, taking, curveLine, curveOf, countsIn, counted, padded, takingPlanes, openingCells, openingPlanes, openingStep, openingCurve, openingLevels, openingCols, opening}
+use Rattle.header.specs.Opening.{Opening, no, taking, curveLine, curveOf, limits, counted, takingPlanes, openingCells, openingPlanes, openingStep, openingCurve, openingLevels, openingCols, opening}
 use Rattle.header.proofs.HeaderLines.{headed}
-use Rattle.header.proofs.ListText.{Counted, written-counts, list-length}
+use Rattle.header.proofs.Counts.{Counted, counts-read}
 use Rattle.header.proofs.Opens.{padded-in}
 use Rattle.header.proofs.Rightness.{most-le}
 use Rattle.header.proofs.Total.{cells-most}
 use Rattle.header.proofs.Turns.{PlanesLine}
-use Rattle.display.specs.Shown.{bufferBytes, hasEnd, longNumber}
+use Rattle.display.specs.Shown.{bufferBytes, longNumber}
 use Rattle.display.proofs.LongLines.{taken-long, prolonged, line-long, line-short, curve-long, curve-short}
 
 -- ---- what the first bytes answer, and what all of it answers
@@ -49,18 +52,18 @@ turn-long ends n (L.Number v k) go all h = h v k refl
 abbrev planesMost : ℕ
 planesMost = 7 + 3 * layersMost
 
-counts-short : (sh : Shape) (text counts : List ℕ) → layers sh ≤ layersMost → Counted sh 0 text (layers sh) counts → length text ≤ 3 * layersMost
+counts-short : (sh : Shape) (text counts : List ℕ) → layers sh ≤ layersMost → Counted sh text counts → length text ≤ 3 * layersMost
 counts-short sh text counts few c =
     omega (
       arith,
       ap length (c .text-is),
       c .long,
-      list-length 2 counts (λ i l. length-le 1 (getD counts i 0) (omega (arith, c .most i (omega (arith, c .long)), most-le sh (0 + i)))),
+      joined-length 2 counts (λ i l. length-le 1 (getD counts i 0) (omega (arith, c .most i (omega (arith, c .long)), most-le sh i))),
     )
 
 module _ (sh : Shape) (few : layers sh ≤ layersMost) where
   abbrev counts-in : List ℕ → Option (List ℕ)
-  counts-in line = countsIn sh (layers sh) 0 (drop (length (ascii "planes=")) line)
+  counts-in line = numbersIn (limits sh) (drop (length (ascii "planes=")) line)
 
   abbrev planes-line : (List ℕ → ℕ → Opening) → List ℕ → ℕ → Opening
   planes-line go line b = cond (starts (ascii "planes=") line) (counted (counts-in line) (λ planes. go planes (b + 1))) (no (refusal 6 6 0))
@@ -73,10 +76,10 @@ module _ (sh : Shape) (few : layers sh ≤ layersMost) where
       cases false o e = refl
       cases true none e = refl
       cases true (some counts) e =
-          let c = written-counts sh (layers sh) 0 (drop 7 line) counts e in
+          let c = counts-read sh (drop 7 line) counts e in
           absurd (let z : ⊥ = omega (arith, counts-short sh (drop 7 line) counts few c, length-drop 7 line) in z)
 
-  module _ (l rest : List ℕ) (go all : List ℕ → ℕ → Opening) (follows : (counts : List ℕ) → PlanesLine sh l counts → Long (hasEnd rest) (go (padded counts) (before newline l + 1)) (all (padded counts) (before newline l + 1))) where
+  module _ (l rest : List ℕ) (go all : List ℕ → ℕ → Opening) (follows : (counts : List ℕ) → PlanesLine sh l counts → Long (hasEnd rest) (go (padded layersMost counts) (before newline l + 1)) (all (padded layersMost counts) (before newline l + 1))) where
     planes-same : before newline l < length l → Long (hasEnd rest) (planes-line go (take (before newline l) l) (before newline l)) (planes-line all (take (before newline l) l) (before newline l))
     planes-same h = cases (starts (ascii "planes=") (take (before newline l) l)) (counts-in (take (before newline l) l)) refl refl
       where
@@ -100,7 +103,7 @@ module _ (sh : Shape) (few : layers sh ≤ layersMost) where
   unfolding asciiFrom
   planes-short l counts p =
       let line = take (before newline l) l in
-      let c = written-counts sh (layers sh) 0 (drop 7 line) counts (p .counts-are) in
+      let c = counts-read sh (drop 7 line) counts (p .counts-are) in
       omega (arith, p .inside, counts-short sh (drop 7 line) counts few c, length-drop 7 line, length-take (before newline l) l)
 
 -- ---- the lines in turn. A line that is read has at most 28 bytes (line 6 a few more), so at most 256 stand before line 7 and the first bytes have far more behind
@@ -132,12 +135,11 @@ module _ (bs rest : List ℕ) (enough : bufferBytes ≤ length bs) where
     few : layers sh ≤ layersMost
     few = layers-few sh (accepted-yes sh ok)
 
-    cells-few : (l counts : List ℕ) → PlanesLine sh l counts → cellsOf sh (padded counts) ≤ cellsMost
+    cells-few : (l counts : List ℕ) → PlanesLine sh l counts → cellsOf sh (padded layersMost counts) ≤ cellsMost
     cells-few l counts p =
-        let c = written-counts sh (layers sh) 0 _ counts (p .counts-are) in
-        cells-most sh ok (padded counts) (λ k h.
-        let z : 0 + k ≡ k = omega arith in
-        rw (padded-in counts (omega (arith, c .long, few)) k (omega (arith, c .long))) (omega (arith, rw z at (c .most k h), most-le sh k)))
+        let c = counts-read sh _ counts (p .counts-are) in
+        cells-most sh ok (padded layersMost counts) (λ k h.
+        rw (padded-in counts (omega (arith, c .long, few)) k (omega (arith, c .long))) (omega (arith, c .most k h, most-le sh k)))
 
     planes-turn : (curve : Curve) (step at : ℕ) → at ≤ 128 → Long ends (openingPlanes bs sh curve step at) (openingPlanes (bs ++ rest) sh curve step at)
     unfolding openingPlanes
@@ -148,7 +150,7 @@ module _ (bs rest : List ℕ) (enough : bufferBytes ≤ length bs) where
         (planes-long sh few line rest
         (λ planes n. openingCells bs (header planes) (at + n))
         (λ planes n. openingCells (bs ++ rest) (header planes) (at + n))
-        (λ counts p. cells-long (header (padded counts)) (at + (before newline line + 1)) (omega (arith, planes-short sh few line counts p)) (cells-few line counts p))
+        (λ counts p. cells-long (header (padded layersMost counts)) (at + (before newline line + 1)) (omega (arith, planes-short sh few line counts p)) (cells-few line counts p))
         (omega (arith, length-drop at bs)))
 
     step-turn : (curve : Curve) (at : ℕ) → at ≤ 96 → Long ends (openingStep bs sh curve at) (openingStep (bs ++ rest) sh curve at)

@@ -4,40 +4,37 @@ use mathlib.Core.List.{List, [], _∷_, _++_}
 use mathlib.Core.Path.{_≡_, refl, ap}
 use Prim.Native.Nat.{ℕ, _+_, _^_, _<_, _≤_}
 use native.Mathlib.Omega.{arith}
-use borrow.Author.Tests.{lt-ltb, le-ltb, ltb-true, ltb-false}
-use lib.Dec.{ltb}
 use lib.ListN.{length, take, drop, length-append, length-take, length-drop}
 use lib.Seq.{take-append-le, take-append-add}
 use Rattle.integers.proofs.Bools.{by, not-yes}
-use Rattle.layers.specs.declared.Curve.{Curve}
-use Rattle.layers.specs.declared.Curve.the-variants.{Linear, Cubic}
+use Rattle.sheet.specs.declared.Curve.{Curve}
+use Rattle.sheet.specs.declared.Curve.the-variants.{Linear, Cubic}
 use Rattle.text.specs.declared.Number.{Number}
 use Rattle.text.specs.declared.Number.the-variants as N
 use Rattle.text.specs.declared.Line.{Line}
 use Rattle.text.specs.declared.Line.the-variants as L
 use Rattle.text.specs.Decimal.{parsed}
-use Rattle.text.specs.Line.{newline, before, starts, numbered, lineAt}
+use Rattle.text.specs.Line.{newline, before, starts, hasEnd, numbered, lineAt}
 use Rattle.text.proofs.Digits.{length-most}
 use Rattle.text.proofs.Lines.{Written, written, line-length}
 use Rattle.text.proofs.Reading.{Spelt, spelt}
-use Rattle.text.proofs.Search.{Free, before-le, before-in, before-past}
+use Rattle.text.proofs.Search.{Free, has-end, no-end, end-inside, end-past, before-le, before-in, before-past}
 use Rattle.header.specs.Header.{asciiFrom}
 use Rattle.header.specs.Opening.{same, curveLine, curveOf}
 use Rattle.header.proofs.CurveLine.{curveWords, same-is, read-curve}
-use Rattle.display.specs.Shown.{hasEnd}
 
 -- ---- any line: f tells what its text and its length come to, and s is the answer where it has no end
 module _ {X : Type 0} (s : X) where
   abbrev taken : (List ℕ → ℕ → X) → List ℕ → X
-  taken f l = cond (ltb (before newline l) (length l)) (f (take (before newline l) l) (before newline l)) s
+  taken f l = cond (hasEnd l) (f (take (before newline l) l) (before newline l)) s
 
   module _ (f g : List ℕ → ℕ → X) (P : X → X → Type 0) (l rest : List ℕ) where
     inside-same : P (f (take (before newline l) l) (before newline l)) (g (take (before newline l) l) (before newline l)) → before newline l < length l → P (taken f l) (taken g (l ++ rest))
     inside-same p h =
         rw (
           before-in newline l rest h,
-          lt-ltb (before newline l) (length l) h,
-          lt-ltb (before newline l) (length (l ++ rest)) (omega (arith, length-append l rest)),
+          has-end l h,
+          has-end (l ++ rest) (omega (arith, before-in newline l rest h, length-append l rest)),
           take-append-le (before newline l) l rest (omega arith),
         )
         p
@@ -48,8 +45,8 @@ module _ {X : Type 0} (s : X) where
         let m : length l + before newline rest ≡ length line = omega (arith, length-append l (take (before newline rest) rest), length-take (before newline rest) rest) in
         rw (
           before-past newline l rest free,
-          le-ltb (before newline l) (length l) (omega arith),
-          lt-ltb (length l + before newline rest) (length (l ++ rest)) (omega (arith, length-append l rest)),
+          no-end l (omega arith),
+          has-end (l ++ rest) (omega (arith, before-past newline l rest free, length-append l rest)),
           take-append-add l rest (before newline rest),
           m,
         )
@@ -59,8 +56,8 @@ module _ {X : Type 0} (s : X) where
     outside-short p free h =
         rw (
           before-past newline l rest free,
-          le-ltb (before newline l) (length l) (omega arith),
-          le-ltb (length l + before newline rest) (length (l ++ rest)) (omega (arith, length-append l rest)),
+          no-end l (omega arith),
+          no-end (l ++ rest) (omega (arith, before-past newline l rest free, length-append l rest)),
         )
         p
 
@@ -68,15 +65,14 @@ module _ {X : Type 0} (s : X) where
         (before newline l < length l → P (f (take (before newline l) l) (before newline l)) (g (take (before newline l) l) (before newline l)))
         → (hasEnd rest ≡ true → (line : List ℕ) → length l ≤ length line → P s (g line (length line)))
         → (hasEnd rest ≡ false → P s s) → P (taken f l) (taken g (l ++ rest))
-    unfolding hasEnd
     taken-long inside long short =
-        by (ltb (before newline l) (length l))
-        (λ t. inside-same (inside (ltb-true _ _ t)) (ltb-true _ _ t))
+        by (hasEnd l)
+        (λ t. inside-same (inside (end-inside l t)) (end-inside l t))
         (λ t.
-        let free : Free newline l = omega (arith, before-le newline l, ltb-false (before newline l) (length l) t) in
+        let free : Free newline l = omega (arith, before-le newline l, end-past l t) in
         by (hasEnd rest)
-        (λ e. outside-long (long e) free (ltb-true _ _ e))
-        (λ e. outside-short (short e) free (ltb-false _ _ e)))
+        (λ e. outside-long (long e) free (end-inside rest e))
+        (λ e. outside-short (short e) free (end-past rest e)))
 
 -- ---- lines of a number and of the curve
 abbrev pub prolonged : Bool → Line → Line

@@ -2,21 +2,21 @@
 use mathlib.Core.Bool.{false, _||_}
 use mathlib.Core.List.{List, _++_}
 use mathlib.Core.Path.{_≡_, ap}
-use Prim.Native.Nat.{ℕ, _+_, _<_, _≤_}
+use Prim.Native.Nat.{ℕ, _<_, _≤_}
 use native.Mathlib.Omega.{arith}
-use borrow.Author.Tests.{lt-ltb, le-ltb, ltb-true, ltb-false, ne-eqb}
-use lib.Dec.{ltb, eqb}
+use borrow.Author.Tests.{ne-eqb}
+use lib.Dec.{eqb}
 use lib.ListN.{length, drop, length-append}
 use Rattle.integers.proofs.Bools.{by}
-use Rattle.text.specs.Line.{newline, before, lineText}
-use Rattle.text.proofs.Search.{Free, before-le, before-in, before-past}
+use Rattle.text.specs.Line.{newline, hasEnd, lineText}
+use Rattle.text.proofs.Search.{Free, has-end, no-end, end-inside, end-past, before-le, before-in, before-past}
 use Rattle.header.specs.Header.{ascii, headerText}
 use Rattle.header.specs.Opening.{opening}
 use Rattle.header.proofs.HeaderLines.{Accepts}
 use Rattle.header.proofs.Opens.{opened-right}
 use Rattle.header.proofs.Rightness.{right-yes}
 use Rattle.header.proofs.TextLength.{card-fits}
-use Rattle.display.specs.Shown.{textOf, seen, shownText, bufferBytes, hasEnd, longNumber}
+use Rattle.display.specs.Shown.{textOf, seen, shownText, bufferBytes, longNumber}
 use Rattle.display.proofs.AllPieces.{refused-shown}
 use Rattle.display.proofs.LongInput.{long-opening}
 
@@ -38,13 +38,12 @@ long-shown bs rest enough =
 
 -- ---- a byte 10 in one part or in the other
 pub end-append : (a b : List ℕ) → hasEnd (a ++ b) ≡ hasEnd a || hasEnd b
-unfolding hasEnd
 end-append a b =
-    by (ltb (before newline a) (length a))
-    (λ t. rw (t, before-in newline a b (ltb-true _ _ t)) (lt-ltb (before newline a) (length (a ++ b)) (omega (arith, length-append a b, ltb-true (before newline a) (length a) t))))
+    by (hasEnd a)
+    (λ t. rw t (has-end (a ++ b) (omega (arith, length-append a b, before-in newline a b (end-inside a t), end-inside a t))))
     (λ t.
-    let free : Free newline a = omega (arith, before-le newline a, ltb-false (before newline a) (length a) t) in
-    rw (t, before-past newline a b free)
-    (by (ltb (before newline b) (length b))
-    (λ e. rw e (lt-ltb (length a + before newline b) (length (a ++ b)) (omega (arith, length-append a b, ltb-true (before newline b) (length b) e))))
-    (λ e. rw e (le-ltb (length a + before newline b) (length (a ++ b)) (omega (arith, length-append a b, ltb-false (before newline b) (length b) e))))))
+    let free : Free newline a = omega (arith, before-le newline a, end-past a t) in
+    rw t
+    (by (hasEnd b)
+    (λ e. rw e (has-end (a ++ b) (omega (arith, length-append a b, before-past newline a b free, end-inside b e))))
+    (λ e. rw e (no-end (a ++ b) (omega (arith, length-append a b, before-past newline a b free, end-past b e))))))

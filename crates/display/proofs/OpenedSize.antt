@@ -2,24 +2,23 @@
 use mathlib.Core.Bool.{Bool, true, false}
 use mathlib.Core.List.{List}
 use mathlib.Core.Path.{_≡_, refl}
-use Prim.Native.Nat.{ℕ, _*_, _≤_}
+use Prim.Native.Nat.{ℕ, _≤_}
 use native.Mathlib.Omega.{arith}
 use borrow.Author.Tests.{eqb-true, eqb-false}
 use lib.Dec.{eqb}
-use Rattle.layers.specs.declared.Shape.{Shape}
-use Rattle.layers.specs.Limits.{pointsMost}
-use Rattle.layers.specs.Sheet.{points}
-use Rattle.layers.proofs.Accepting.{Sheet, accepted-yes}
-use Rattle.layers.proofs.Fits.{lines-small}
+use Rattle.sheet.specs.declared.Shape.{Shape}
+use Rattle.sheet.specs.Limits.{pointsMost}
+use Rattle.sheet.specs.Sheet.{sized, accepted, points, pointsIn}
+use Rattle.sheet.proofs.Accepting.{Sheet, accepted-yes, accepted-by, points-in}
 use Rattle.header.specs.Opening.{opening}
 use Rattle.header.proofs.HeaderLines.{Accepts}
 use Rattle.header.proofs.Opens.{opened-right}
 use Rattle.header.proofs.Refusing.{answers, refused-blank}
 use Rattle.header.proofs.Rightness.{right-yes}
 
--- the rows of all sheets, and their points
+-- the points, as they are told, and no more than a sheet can have
 abbrev pub Small : Shape → Type 0
-Small sh = (sh .depth * sh .rows ≤ pointsMost) × (points sh ≤ pointsMost)
+Small sh = (pointsIn sh ≡ points sh) × (points sh ≤ pointsMost)
 
 module _ (bs : List ℕ) where
   pub opened-sheet : Accepts (opening bs) → Sheet (opening bs .header .shape)
@@ -29,5 +28,5 @@ module _ (bs : List ℕ) where
   opened-small = by (eqb (opening bs .refused .number) 0) refl
     where
       by : (t : Bool) → eqb (opening bs .refused .number) 0 ≡ t → Small (opening bs .header .shape)
-      by true e = let s = opened-sheet (eqb-true _ _ e) in (lines-small s, s .small)
-      by false e = rw (refused-blank (answers bs) (eqb-false _ _ e)) (omega arith, omega arith)
+      by true e = let s = opened-sheet (eqb-true _ _ e) in (points-in (opening bs .header .shape) (accepted-by (opening bs .header .shape) s), s .small)
+      by false e = rw (refused-blank (answers bs) (eqb-false _ _ e)) (unfold pointsIn accepted sized in (refl, omega arith))

@@ -10,7 +10,8 @@ use lib.IntN.{ℤ, pos}
 use lib.ListN.{length, getD, take, drop, length-take, length-drop, drop-of-length-le}
 use lib.Seq.{drop-cons, getD-take, getD-drop}
 use Rattle.text.specs.Line.{newline}
-use Rattle.header.specs.Header.{ascii, comma}
+use Rattle.text.specs.Joined.{comma}
+use Rattle.header.specs.Header.{ascii}
 use Rattle.display.specs.Shown.{signed, valuesText, rowsText, rowStart, rowEnd, valuePiece, inOrder}
 use Rattle.display.proofs.Order.{order-split, order-same}
 

@@ -5,9 +5,9 @@ use Prim.Native.Nat.{ℕ, zero, suc, _≤_}
 use native.Mathlib.Omega.{arith}
 use lib.IntN.{ℤ, pos}
 use lib.ListN.{take, replicate}
-use Rattle.layers.specs.declared.Shape.{Shape}
-use Rattle.layers.specs.Limits.{pointsMost}
-use Rattle.layers.specs.Sheet.{points}
+use Rattle.sheet.specs.declared.Shape.{Shape}
+use Rattle.sheet.specs.Limits.{pointsMost}
+use Rattle.sheet.specs.Sheet.{points}
 use Rattle.header.specs.declared.Opened.{Opened}
 use Rattle.header.specs.Refusals.{detailsOf}
 use Rattle.header.specs.Opening as O

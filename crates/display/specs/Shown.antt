@@ -6,14 +6,15 @@ use lib.Dec.{ltb, eqb}
 use lib.IntN.{ℤ, pos, negsuc}
 use lib.ListN.{length, getD, take, drop, replicate}
 use lib.Seq.{sets}
-use Rattle.layers.specs.declared.Shape.{Shape}
-use Rattle.layers.specs.Limits.{layersMost}
-use Rattle.layers.specs.Sheet.{points, layers}
+use Rattle.sheet.specs.declared.Shape.{Shape}
+use Rattle.sheet.specs.Limits.{layersMost}
+use Rattle.sheet.specs.Sheet.{points, layers}
 use Rattle.text.specs.Text.{padded}
 use Rattle.text.specs.Decimal.{digits, charactersMost}
-use Rattle.text.specs.Line.{newline, before, lineText}
+use Rattle.text.specs.Line.{newline, hasEnd, lineText}
+use Rattle.text.specs.Joined.{comma, joined}
 use Rattle.header.specs.declared.Plan.{Plan}
-use Rattle.header.specs.Header.{ascii, comma, listText}
+use Rattle.header.specs.Header.{ascii}
 use Rattle.header.specs.Opening.{opening}
 use Rattle.card.specs.Reading.{Reading, showing}
 use Rattle.display.specs.declared.Ahead.{Ahead}
@@ -29,7 +30,7 @@ signed (negsuc n) = ascii "-" ++ digits (suc n)
 
 -- "planes used": a count for each of the 1 + 2L layers
 unfoldable pub loadedText : Shape → Plan → List ℕ
-loadedText sh plan = ascii "loaded=" ++ listText (take (layers sh) (plan .planes)) ++ newline ∷ []
+loadedText sh plan = ascii "loaded=" ++ joined (take (layers sh) (plan .planes)) ++ newline ∷ []
 
 -- "a line of values per row"
 unfoldable pub valuesText : List ℤ → List ℕ
@@ -132,10 +133,6 @@ inOrder piece (suc n) i = piece i ++ inOrder piece n (suc i)
 -- what is read of an input before it is known to be longer than any card, which has at most 32,768 bytes
 abbrev pub bufferBytes : ℕ
 bufferBytes = 40000
-
--- is there a byte 10?
-unfoldable pub hasEnd : List ℕ → Bool
-hasEnd bs = ltb (before newline bs) (length bs)
 
 -- what the bytes of one turn tell of what follows, where so many are looked at in a turn: a byte 10, or none, and then fewer bytes are the file's last
 abbrev pub chunkBytes : ℕ

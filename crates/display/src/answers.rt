@@ -1,10 +1,11 @@
 // What is to be printed: of a card that is all there, and of an input that is longer than any card.
 ghost use mathlib.Core.Path.{_≡_};
-ghost use Prim.Native.Nat.{_*_, _≤_};
+ghost use Prim.Native.Nat.{_≤_};
 ghost use lib.IntN.{pos};
 ghost use lib.ListN.{replicate, take};
-ghost use Rattle.layers.specs.Limits.{pointsMost};
-ghost use Rattle.layers.specs.Sheet.{points};
+ghost use Rattle.sheet.specs.Limits.{pointsMost};
+ghost use Rattle.sheet.specs.Sheet.{points, pointsIn};
+ghost use Rattle.text.specs.Line as L;
 ghost use Rattle.header.specs.Opening as O;
 ghost use Rattle.display.specs.Shown as S;
 use crate::Ahead;
@@ -14,15 +15,12 @@ use crate::Shown;
 // What is shown of a card that is all there, with its values at the front of their slice.
 pub(crate) fn shown_of(bytes: &[u8], coefficients: &mut [i32], values: &mut [i64]) -> Shown
     requires { ⌜ (now coefficients ≡ replicate pointsMost (pos 0)) × (now values ≡ replicate pointsMost (pos 0)) ⌝ }
-    ensures { λ r. ⌜ (r ≡ S.shownOf (now (bytes .entry))) × (take (points (r .shape)) (now (values .exit)) ≡ S.valuesOf (now (bytes .entry))) × (r .shape .depth * r .shape .rows ≤ pointsMost) × (points (r .shape) ≤ pointsMost) ⌝ }
+    ensures { λ r. ⌜ (r ≡ S.shownOf (now (bytes .entry))) × (take (points (r .shape)) (now (values .exit)) ≡ S.valuesOf (now (bytes .entry))) × (pointsIn (r .shape) ≡ points (r .shape)) × (points (r .shape) ≤ pointsMost) ⌝ }
 {
     let opened = header::open(bytes);
     let header = opened.header;
     let shape = header.shape;
-    let depth = shape.depth;
-    let rows = shape.rows;
-    let cols = shape.cols;
-    let points = depth * rows * cols;
+    let points = sheet::points(shape);
     let reached = card::show(bytes, &mut coefficients[..points], &mut values[..points]);
     let refusal = reached.refusal;
     let details = header::details_of(refusal);
@@ -47,7 +45,7 @@ pub(crate) fn opening_number(bytes: &[u8]) -> u64
 
 // Is there a byte 10?
 fn has_end(bytes: &[u8]) -> bool
-    ensures { λ r. ⌜ r ≡ S.hasEnd (now (bytes .entry)) ⌝ }
+    ensures { λ r. ⌜ r ≡ L.hasEnd (now (bytes .entry)) ⌝ }
 {
     text::find(bytes, 0, b'\n') < bytes.len()
 }

@@ -4,10 +4,10 @@ mod pieces;
 mod printing;
 
 use header::Plan;
-use layers::MOST_LAYERS;
-use layers::Shape;
 pub use pieces::piece_at;
 pub use printing::show;
+use sheet::MOST_LAYERS;
+use sheet::Shape;
 use text::MOST_CHARACTERS;
 
 // Room for a key, and for the longest piece, which is the line of planes: a comma or the line's end stands behind each count.

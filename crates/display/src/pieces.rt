@@ -1,20 +1,20 @@
 // The pieces of text, each made by putting text behind text.
 ghost use mathlib.Core.Path.{_≡_};
 ghost use mathlib.Core.List.{[]};
-ghost use Prim.Native.Nat.{_+_, _<_, _≤_};
+ghost use Prim.Native.Nat.{_+_, _≤_};
 ghost use lib.IntN.{natAbs};
 ghost use lib.ListN.{length, take};
-ghost use Rattle.layers.specs.Limits.{layersMost, pointsMost};
+ghost use Rattle.sheet.specs.Limits.{layersMost, pointsMost};
 ghost use Rattle.text.specs.Decimal as T;
 ghost use Rattle.text.specs.Line as L;
-ghost use Rattle.header.specs.Header as Hd;
+ghost use Rattle.text.specs.Joined as J;
 ghost use Rattle.display.specs.Shown as S;
 use crate::MOST_PIECE;
 use crate::Piece;
 use crate::Shown;
 use header::Plan;
-use layers::MOST_LAYERS;
-use layers::Shape;
+use sheet::MOST_LAYERS;
+use sheet::Shape;
 
 // The lines before the values.
 const SHEET_LINES: usize = 4;
@@ -43,10 +43,9 @@ fn with_number(piece: Piece, n: u64) -> Piece
     requires { ⌜ piece .length + T.charactersMost ≤ S.pieceMost ⌝ }
     ensures { λ r. ⌜ r ≡ S.extended piece (T.digits n) ⌝ }
 {
-    let text = text::to_decimal(n);
-    let bytes = text.bytes;
-    let length = text.length;
-    with_text(piece, &bytes[..length])
+    let mut bytes = piece.bytes;
+    let length = text::put_number(&mut bytes, piece.length, n);
+    Piece { bytes, length }
 }
 
 // A value without its sign.
@@ -80,16 +79,14 @@ pub(crate) fn line(key: &[u8], n: u64) -> Piece
     with_text(with_number(with_text(nothing(), key), n), b"\n")
 }
 
-// The first `count` numbers, commas between.
+// A piece with the first `count` numbers behind it, commas between.
 fn with_list(piece: Piece, numbers: [u64; MOST_LAYERS], count: usize) -> Piece
-    requires { ⌜ (piece .length ≤ S.keyMost) × (0 < count) × (count ≤ layersMost) ⌝ }
-    ensures { λ r. ⌜ r ≡ S.extended piece (Hd.listText (take count numbers)) ⌝ }
+    requires { ⌜ (count ≤ layersMost) × (piece .length + length (J.joined (take count numbers)) ≤ S.pieceMost) ⌝ }
+    ensures { λ r. ⌜ r ≡ S.extended piece (J.joined (take count numbers)) ⌝ }
 {
-    let mut out = with_number(piece, numbers[0]);
-    for i in 1..count {
-        out = with_number(with_text(out, b","), numbers[i]);
-    }
-    out
+    let mut bytes = piece.bytes;
+    let length = text::put_joined(&mut bytes, piece.length, &numbers[..count]);
+    Piece { bytes, length }
 }
 
 // The line of the planes loaded.
@@ -98,7 +95,7 @@ pub(crate) fn loaded_line(shape: Shape, plan: Plan) -> Piece
 {
     let planes = plan.planes;
     let key = with_text(nothing(), b"loaded=");
-    with_text(with_list(key, planes, layers::layer_count(shape)), b"\n")
+    with_text(with_list(key, planes, sheet::layer_count(shape)), b"\n")
 }
 
 // What stands before a value: the key of its line, where it is the first.

@@ -3,7 +3,7 @@ ghost use mathlib.Core.Path.{_≡_};
 ghost use Prim.Native.Nat.{_≤_};
 ghost use lib.IntN.{pos};
 ghost use lib.ListN.{length, replicate};
-ghost use Rattle.layers.specs.Limits.{pointsMost};
+ghost use Rattle.sheet.specs.Limits.{pointsMost};
 ghost use Rattle.display.specs.Shown as S;
 use crate::Ahead;
 use crate::CHUNK;
@@ -16,8 +16,8 @@ use crate::answers::shown_of;
 use crate::pieces::line;
 use crate::pieces::piece_at;
 use crate::pieces::pieces;
-use layers::MOST_POINTS;
 use libc::STDOUT_FILENO;
+use sheet::MOST_POINTS;
 
 // More than any card has.
 const BUFFER: usize = 40000;
@@ -45,10 +45,7 @@ fn show_in(bytes: &[u8], coefficients: &mut [i32], values: &mut [i64])
 {
     let shown = shown_of(bytes, coefficients, values);
     let shape = shown.shape;
-    let depth = shape.depth;
-    let rows = shape.rows;
-    let cols = shape.cols;
-    let points = depth * rows * cols;
+    let points = sheet::points(shape);
     print(shown, &values[..points]);
 }
 

@@ -5,8 +5,8 @@ use Prim.Native.Nat.{ℕ}
 use lib.IntN.{ℤ}
 use lib.ListN.{length, drop}
 use Rattle.integers.specs.Distance.{Within}
-use Rattle.layers.specs.Limits.{sampleMost}
-use Rattle.layers.specs.Lists.{at}
+use Rattle.sheet.specs.Limits.{sampleMost}
+use Rattle.sheet.specs.Lists.{at}
 use Rattle.layers.specs.Layering.{Layering, Proper, layering, rebuilt, written, coefs}
 use Rattle.layers.specs.Loops.{Samples}
 use Rattle.layers.proofs.Law.{length-rebuilt, write-back, coefs-back}
@@ -18,9 +18,11 @@ use Rattle.header.specs.Opening.{opening}
 use Rattle.header.specs.Refusals.{refusal}
 use Rattle.header.proofs.Opens.{Opens}
 use Rattle.header.proofs.Rightness.{Right}
-use Rattle.card.specs.Planes.{body, cardOf}
-use Rattle.card.specs.Reading.{Reading, coefsRead}
-use Rattle.card.proofs.ReadCall.{readAs, coefs-long}
+use Rattle.packing.specs.Planes.{body, cardOf}
+use Rattle.loading.specs.Loading.{coefsRead}
+use Rattle.card.specs.Reading.{Reading}
+use Rattle.loading.proofs.Loads.{coefs-long}
+use Rattle.card.proofs.ReadCall.{readAs}
 use Rattle.guarantee.specs.WrittenBack.{headerIn, readAll, Readable, Room, WritesBack, WrittenBack}
 use Rattle.guarantee.proofs.AllPlanes.{header-again, read-carries}
 use Rattle.guarantee.proofs.Bytes.{carried-body}

@@ -14,19 +14,19 @@ use Rattle.integers.proofs.Bools.{and-left, and-right}
 use Rattle.digits.proofs.Range.{holds-up}
 use Rattle.digits.proofs.Expansion.{digit-past}
 use Rattle.digits.proofs.Firsts.{first-only}
-use Rattle.layers.specs.Limits.{layersMost}
-use Rattle.layers.specs.Lists.{at}
-use Rattle.layers.specs.Sheet.{layers, layerSize, pointOf}
-use Rattle.layers.proofs.Lists.{length-tabulate}
-use Rattle.layers.proofs.Places.{point-on, point-in}
+use Rattle.sheet.specs.Limits.{layersMost}
+use Rattle.sheet.specs.Lists.{at}
+use Rattle.sheet.specs.Sheet.{layers, layerSize, pointOf}
+use Rattle.sheet.proofs.Lists.{length-tabulate}
+use Rattle.sheet.proofs.Places.{point-on, point-in}
 use Rattle.header.specs.declared.Header.{Header}
 use Rattle.header.specs.Header.{placesMost, cellPoints, planesOf, planeCells, cellsOf}
 use Rattle.header.proofs.Rightness.{Right, counts-few, counts-past}
-use Rattle.card.specs.Planes.{planeBit, allBelow, enough, planesFor, countsFor, headerFor}
-use Rattle.card.specs.Reading.{bitOf, clean, hasOne, fine, coefsRead}
-use Rattle.card.proofs.All.{all-by, all-at}
-use Rattle.card.proofs.Cards.{counts-at}
-use Rattle.card.proofs.HeldLayers.{enough-yes, enough-by}
+use Rattle.packing.specs.Planes.{planeBit, allBelow, enough, planesFor, countsFor, headerFor}
+use Rattle.loading.specs.Loading.{bitOf, clean, hasOne, fine, coefsRead}
+use Rattle.packing.proofs.All.{all-by, all-at}
+use Rattle.packing.proofs.Cards.{counts-at}
+use Rattle.packing.proofs.HeldLayers.{enough-yes, enough-by}
 use Rattle.guarantee.proofs.Carried.{Carries}
 use Rattle.guarantee.proofs.Coefficients.{full-holds, full-digit}
 use Rattle.guarantee.proofs.Taken.{Taken}

@@ -9,13 +9,13 @@ use lib.ListN.{length, getD, drop, length-drop}
 use lib.Seq.{ext-getD, getD-drop}
 use Rattle.header.specs.declared.Header.{Header}
 use Rattle.header.specs.Header.{cellBytes, cellPoints, planeCells}
-use Rattle.header.specs.CardOrder.{cellsBefore}
-use Rattle.header.proofs.Rightness.{Right}
-use Rattle.card.specs.Planes.{body}
-use Rattle.card.specs.Reading.{bitOf}
-use Rattle.card.proofs.BodyOrder.{body-small, body-length, card-bit}
-use Rattle.card.proofs.Packing.{bits-above}
-use Rattle.card.proofs.LayerPlanes.{few-planes}
+use Rattle.order.specs.CardOrder.{cellsBefore}
+use Rattle.header.proofs.Rightness.{Right, few-planes}
+use Rattle.packing.specs.Planes.{body}
+use Rattle.loading.specs.Loading.{bitAt, bitOf}
+use Rattle.packing.proofs.BodyOrder.{body-small, body-length}
+use Rattle.loading.proofs.CardBits.{card-bit}
+use Rattle.packing.proofs.Packing.{bits-above}
 use Rattle.guarantee.proofs.Carried.{Carries}
 use Rattle.guarantee.proofs.Cells.{PlaneAt, find-plane}
 
@@ -34,7 +34,7 @@ module _ {h : Header} (r : Right h) {long : ℕ} {bs : List ℕ} {qs : List ℤ}
     (bytes : (j : ℕ) → getD bs j 0 < 256) (whole : length bs ≡ long + cellBytes * h .cells) where
   -- bit i of byte j
   byte-bit : (j i : ℕ) → j < length (body h qs) → i < 8 → getD (body h qs) j 0 / 2 ^ i % 2 ≡ getD (drop long bs) j 0 / 2 ^ i % 2
-  unfolding bitOf
+  unfolding bitAt
   byte-bit j i l m =
       let w : PlaneAt h (j / cellBytes) = find-plane h (few-planes r) (j / cellBytes) (omega (arith, body-length h qs (few-planes r))) in
       let start = cellBytes * cellsBefore h (w .layer) (w .place) in

@@ -6,15 +6,15 @@ use native.Mathlib.Omega.{arith}
 use borrow.Author.Tests.{lt-ltb}
 use lib.IntN.{ℤ}
 use Rattle.digits.specs.Digits.{digitAt}
-use Rattle.layers.specs.Lists.{at}
-use Rattle.layers.specs.Sheet.{layers, layerSize, pointOf}
+use Rattle.sheet.specs.Lists.{at}
+use Rattle.sheet.specs.Sheet.{layers, layerSize, pointOf}
 use Rattle.header.specs.declared.Header.{Header}
 use Rattle.header.specs.declared.Plan.{Plan}
 use Rattle.header.specs.Header.{cellPoints, planesOf, planeCells}
 use Rattle.header.specs.Plan.{loads}
 use Rattle.header.proofs.Total.{plane-room}
-use Rattle.card.specs.Planes.{planeBit}
-use Rattle.card.specs.Reading.{bitOf}
+use Rattle.packing.specs.Planes.{planeBit}
+use Rattle.loading.specs.Loading.{bitOf}
 
 pub record Carries (h : Header) (long : ℕ) (bs : List ℕ) (qs : List ℤ) (plan : Plan) : Type 0 where
   pub bit : (k p : ℕ) → k < layers (h .shape) → p < planesOf h k → planesOf h k ≤ p + loads plan k

@@ -4,11 +4,11 @@ use Prim.Native.Nat.{ℕ, zero, suc, _+_, _-_, _<_, _≤_}
 use native.Mathlib.Nat.{le-refl}
 use native.Mathlib.Decide.{decLt}
 use native.Mathlib.Omega.{arith}
-use Rattle.layers.specs.Sheet.{layers}
+use Rattle.sheet.specs.Sheet.{layers}
 use Rattle.header.specs.declared.Header.{Header}
 use Rattle.header.specs.Header.{placesMost, planesOf, planeCells, cellsOf}
-use Rattle.header.specs.CardOrder.{cellsBefore}
-use Rattle.header.proofs.CardOrder.{next-layer, next-none, next-place, first-place, last-place}
+use Rattle.order.specs.CardOrder.{cellsBefore}
+use Rattle.order.proofs.CardOrder.{next-layer, next-none, next-place, first-place, last-place}
 
 -- the plane that the cell c belongs to
 pub record PlaneAt (h : Header) (c : ℕ) : Type 0 where

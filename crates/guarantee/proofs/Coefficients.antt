@@ -14,17 +14,17 @@ use Rattle.digits.proofs.Range.{Holds, range}
 use Rattle.digits.proofs.Value.{length-truncate}
 use Rattle.digits.proofs.Places.{truncate-none, truncate-step}
 use Rattle.digits.proofs.Missing.{digit-back, missing-below, kept-above}
-use Rattle.layers.specs.declared.Curve.the-variants.{Linear}
-use Rattle.layers.specs.Lists.{at, tabulate}
-use Rattle.layers.specs.Sheet.{accepted, points, layers, inLayer, layerSize, pointOf, placeIn}
-use Rattle.layers.proofs.Lists.{length-tabulate, getD-tabulate}
+use Rattle.sheet.specs.declared.Curve.the-variants.{Linear}
+use Rattle.sheet.specs.Lists.{at, tabulate}
+use Rattle.sheet.specs.Sheet.{accepted, points, layers, inLayer, layerSize, pointOf, placeIn}
+use Rattle.sheet.proofs.Lists.{length-tabulate, getD-tabulate}
 use Rattle.layers.proofs.Members.{layer-no}
-use Rattle.layers.proofs.Places.{point-on, point-in, place-point}
+use Rattle.sheet.proofs.Places.{point-on, point-in, place-point}
 use Rattle.layers.proofs.SheetLaw.{sheet-proper}
 use Rattle.header.specs.declared.Header.{Header}
 use Rattle.header.specs.Header.{planesOf}
-use Rattle.card.specs.Reading.{bitOf, loaded, coefRead, coefsRead}
-use Rattle.card.proofs.LayerPlanes.{loaded-by, loaded-no}
+use Rattle.loading.specs.Loading.{bitAt, bitOf, loaded, coefRead, coefsRead}
+use Rattle.loading.proofs.LayerPlanes.{loaded-by, loaded-no}
 
 binary-tabulate : (n : ℕ) (f : ℕ → ℕ) → ((p : ℕ) → f p < 2) → Binary (tabulate n f)
 unfolding tabulate
@@ -45,7 +45,7 @@ module _ (h : Header) (long : ℕ) (bs : List ℕ) where
     bit-at p l = getD-tabulate (planesOf h k) _ p 0 l
 
     binary-bits : Binary bits
-    unfolding bitOf
+    unfolding bitAt
     binary-bits = binary-tabulate (planesOf h k) _ (λ p. omega arith)
 
     -- "Missing digits count as 0"

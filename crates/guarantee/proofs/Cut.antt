@@ -6,22 +6,22 @@ use native.Mathlib.Omega.{arith}
 use lib.IntN.{ℤ}
 use lib.ListN.{length, take, length-take}
 use lib.Seq.{getD-take}
-use Rattle.layers.specs.declared.Shape.{Shape}
-use Rattle.layers.specs.declared.Curve.{Curve}
-use Rattle.layers.specs.Sheet.{layers}
+use Rattle.sheet.specs.declared.Shape.{Shape}
+use Rattle.sheet.specs.declared.Curve.{Curve}
+use Rattle.sheet.specs.Sheet.{layers}
 use Rattle.header.specs.declared.Header.{Header}
 use Rattle.header.specs.declared.Plan.{Plan}
 use Rattle.header.specs.Header.{cellBytes, cellPoints, planesOf, planeCells, headerText}
 use Rattle.header.specs.Opening.{opening}
-use Rattle.header.specs.CardOrder.{cellsBefore}
-use Rattle.header.proofs.Rightness.{right-by, layers-few}
+use Rattle.order.specs.CardOrder.{cellsBefore}
+use Rattle.header.proofs.Rightness.{right-by, layers-few, few-planes}
 use Rattle.header.proofs.HeaderLines.{accepting}
 use Rattle.header.proofs.Cut.{cut-behind}
-use Rattle.header.proofs.Whole.{whole-fits, counted-whole}
-use Rattle.card.specs.Planes.{planeBit, headerFor, body, cardOf}
-use Rattle.card.specs.Reading.{bitOf}
-use Rattle.card.proofs.BodyOrder.{body-length, card-bit}
-use Rattle.card.proofs.LayerPlanes.{few-planes}
+use Rattle.order.proofs.Whole.{whole-fits, counted-whole}
+use Rattle.packing.specs.Planes.{planeBit, headerFor, body, cardOf}
+use Rattle.loading.specs.Loading.{bitAt, bitOf}
+use Rattle.packing.proofs.BodyOrder.{body-length}
+use Rattle.loading.proofs.CardBits.{card-bit}
 use Rattle.guarantee.proofs.Carried.{Carries}
 use Rattle.guarantee.proofs.Fits.{Fits, end, fits-right, fits-full}
 use Rattle.guarantee.proofs.Taken.{AsksWhole}
@@ -44,7 +44,7 @@ module _ {sh : Shape} {e : ℕ} {qs : List ℤ} (c : Fits sh e qs) (curve : Curv
   -- ITS BITS ARE THOSE WRITTEN
   cut-bit : (k p i : ℕ) → k < layers sh → p < planesOf h k → long + cellBytes * (cellsBefore h k p + planeCells sh k) ≤ n → i < cellPoints * planeCells sh k
       → bitOf h long left k p i ≡ planeBit sh qs k p i
-  unfolding bitOf cardOf
+  unfolding bitAt cardOf
   cut-bit k p i hk hp there l =
       ap (λ (byte : ℕ). byte / 2 ^ (i % 8) % 2) (getD-take n (cardOf sh curve e qs) (long + cellBytes * cellsBefore h k p + i / 8) 0 (omega arith))
       ∙ card-bit h qs (few-planes (fits-right c curve)) k p hk hp (headerText h) i l

@@ -11,12 +11,12 @@ use Rattle.digits.specs.Digits.{digitAt, holds, firstFrom}
 use Rattle.digits.proofs.Range.{Holds, holds-yes, holds-by}
 use Rattle.digits.proofs.Expansion.{top-digit}
 use Rattle.digits.proofs.Firsts.{first-passes, first-least}
-use Rattle.layers.specs.declared.Shape.{Shape}
-use Rattle.layers.specs.Lists.{at}
-use Rattle.layers.specs.Sheet.{points, layers, inLayer}
+use Rattle.sheet.specs.declared.Shape.{Shape}
+use Rattle.sheet.specs.Lists.{at}
+use Rattle.sheet.specs.Sheet.{points, layers, inLayer}
 use Rattle.header.specs.Header.{placesMost}
-use Rattle.card.specs.Planes.{enough, planesFor}
-use Rattle.card.proofs.HeldLayers.{HoldsLayer, enough-yes, enough-by}
+use Rattle.packing.specs.Planes.{enough, planesFor}
+use Rattle.packing.proofs.HeldLayers.{HoldsLayer, enough-yes, enough-by}
 
 -- a number whose digit n is 0 is held by n digits where n + 1 hold it
 drop-top : (n : ℕ) (q : ℤ) → Holds (suc n) q → digitAt q n ≡ 0 → Holds n q

@@ -9,20 +9,20 @@ use lib.Dec.{ltb, eqb}
 use lib.IntN.{ℤ}
 use Rattle.integers.proofs.Bools.{by, and-both}
 use Rattle.digits.specs.Digits.{digitAt}
-use Rattle.layers.specs.declared.Shape.{Shape}
-use Rattle.layers.specs.declared.Curve.{Curve}
-use Rattle.layers.specs.Lists.{at}
-use Rattle.layers.specs.Sheet.{layers, layerSize, placeIn}
-use Rattle.layers.proofs.Places.{place-in, point-place}
+use Rattle.sheet.specs.declared.Shape.{Shape}
+use Rattle.sheet.specs.declared.Curve.{Curve}
+use Rattle.sheet.specs.Lists.{at}
+use Rattle.sheet.specs.Sheet.{layers, layerSize, placeIn}
+use Rattle.sheet.proofs.Places.{place-in, point-place}
 use Rattle.header.specs.declared.Header.{Header}
 use Rattle.header.specs.declared.Plan.{Plan}
 use Rattle.header.specs.Header.{cellPoints, planesOf, planeCells}
 use Rattle.header.specs.Plan.{loads}
 use Rattle.header.proofs.Rightness.{layers-few}
-use Rattle.card.specs.Planes.{planeBit, allBelow, headerFor}
-use Rattle.card.specs.Reading.{bitOf, clean, hasOne, fine}
-use Rattle.card.proofs.All.{all-by, all-at}
-use Rattle.card.proofs.Cards.{counts-at}
+use Rattle.packing.specs.Planes.{planeBit, allBelow, headerFor}
+use Rattle.loading.specs.Loading.{bitOf, clean, hasOne, fine}
+use Rattle.packing.proofs.All.{all-by, all-at}
+use Rattle.packing.proofs.Cards.{counts-at}
 use Rattle.guarantee.proofs.Carried.{Carries, carried-digit}
 use Rattle.guarantee.proofs.Enough.{top-some}
 use Rattle.guarantee.proofs.Fits.{Fits, fits-right}

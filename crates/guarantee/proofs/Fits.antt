@@ -7,21 +7,20 @@ use native.Mathlib.Omega.{arith}
 use lib.IntN.{ℤ}
 use lib.ListN.{length}
 use Rattle.digits.specs.Digits.{holds}
-use Rattle.layers.specs.declared.Shape.{Shape}
-use Rattle.layers.specs.declared.Curve.{Curve}
-use Rattle.layers.specs.Limits.{layersMost, stepMost}
-use Rattle.layers.specs.Lists.{at}
-use Rattle.layers.specs.Sheet.{accepted, points}
+use Rattle.sheet.specs.declared.Shape.{Shape}
+use Rattle.sheet.specs.declared.Curve.{Curve}
+use Rattle.sheet.specs.Limits.{layersMost, stepMost}
+use Rattle.sheet.specs.Lists.{at}
+use Rattle.sheet.specs.Sheet.{accepted, points}
 use Rattle.layers.specs.Layering.{layering, coefs}
 use Rattle.layers.specs.Loops.{Samples}
-use Rattle.layers.proofs.Lists.{length-tabulate}
+use Rattle.sheet.proofs.Lists.{length-tabulate}
 use Rattle.header.specs.Header.{placesMost, cellBytes, headerText}
-use Rattle.header.proofs.Rightness.{Right}
-use Rattle.card.specs.Planes.{planesFor, countsFor, headerFor, cardOf}
-use Rattle.card.proofs.Cards.{header-right, card-length}
-use Rattle.card.proofs.BodyOrder.{body-length}
+use Rattle.header.proofs.Rightness.{Right, few-planes}
+use Rattle.packing.specs.Planes.{planesFor, countsFor, headerFor, cardOf}
+use Rattle.packing.proofs.Cards.{header-right, card-length}
+use Rattle.packing.proofs.BodyOrder.{body-length}
 use Rattle.card.proofs.Writes.{coefs-hold}
-use Rattle.card.proofs.LayerPlanes.{few-planes}
 
 pub record Fits (sh : Shape) (e : ℕ) (qs : List ℤ) : Type 0 where
   pub shape : accepted sh ≡ true

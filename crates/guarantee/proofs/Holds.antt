@@ -7,13 +7,13 @@ use borrow.Author.Tests.{leb-true}
 use lib.IntN.{ℤ}
 use lib.ListN.{length, take, drop}
 use lib.Seq.{take-append-seam}
-use Rattle.layers.specs.declared.Shape.{Shape}
-use Rattle.layers.specs.declared.Curve.{Curve}
-use Rattle.layers.specs.Sheet.{sheetOf}
+use Rattle.sheet.specs.declared.Shape.{Shape}
+use Rattle.sheet.specs.declared.Curve.{Curve}
+use Rattle.sheet.specs.Sheet.{sheetOf}
 use Rattle.layers.specs.Layering.{layering, coefs}
 use Rattle.layers.specs.Loops.{Samples}
 use Rattle.header.specs.declared.Header.{Header}
-use Rattle.card.specs.Planes.{headerFor, cardOf}
+use Rattle.packing.specs.Planes.{headerFor, cardOf}
 use Rattle.card.specs.Writing.{Writing, done}
 use Rattle.card.specs.Reading.{showing}
 use Rattle.planner.specs.Planning.{bestByLimit, figureIn, found, byLimit}

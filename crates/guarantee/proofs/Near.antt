@@ -10,23 +10,23 @@ use Rattle.digits.specs.Digits.{digitsOf, loss}
 use Rattle.digits.proofs.Range.{Holds}
 use Rattle.digits.proofs.Expansion.{digits-length, digits-at, digits-near}
 use Rattle.digits.proofs.Missing.{truncate-same}
-use Rattle.layers.specs.declared.Shape.{Shape}
-use Rattle.layers.specs.declared.Curve.{Curve}
-use Rattle.layers.specs.Lists.{at}
-use Rattle.layers.specs.Sheet.{points, layers, inLayer, layerSize, pointOf, placeIn}
+use Rattle.sheet.specs.declared.Shape.{Shape}
+use Rattle.sheet.specs.declared.Curve.{Curve}
+use Rattle.sheet.specs.Lists.{at}
+use Rattle.sheet.specs.Sheet.{points, layers, inLayer, layerSize, pointOf, placeIn}
 use Rattle.layers.specs.Layering.{layering, coefs}
 use Rattle.layers.specs.Loops.{Samples}
-use Rattle.layers.proofs.Places.{place-in, point-in, point-on, point-place}
+use Rattle.sheet.proofs.Places.{place-in, point-in, point-on, point-place}
 use Rattle.layers.proofs.Standing.{sheet-samples}
 use Rattle.header.specs.declared.Header.{Header}
 use Rattle.header.specs.declared.Plan.{Plan}
 use Rattle.header.specs.Header.{planesOf}
 use Rattle.header.specs.Plan.{loads}
-use Rattle.header.specs.Figure.{figureOf}
+use Rattle.figure.specs.Figure.{figureOf}
 use Rattle.header.proofs.Rightness.{layers-few}
-use Rattle.card.specs.Planes.{headerFor}
-use Rattle.card.specs.Reading.{coefRead, coefsRead}
-use Rattle.card.proofs.Cards.{counts-at}
+use Rattle.packing.specs.Planes.{headerFor}
+use Rattle.loading.specs.Loading.{coefRead, coefsRead}
+use Rattle.packing.proofs.Cards.{counts-at}
 use Rattle.card.proofs.ReadCall.{readAs}
 use Rattle.guarantee.specs.Guarantee.{Gives}
 use Rattle.guarantee.proofs.Coefficients.{bits, length-bits, bit-at, coef-is, coef-at}

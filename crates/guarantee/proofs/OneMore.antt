@@ -11,24 +11,23 @@ use lib.ListN.{length, length-set}
 use lib.Seq.{ext-getD, getD-set-same}
 use Rattle.integers.proofs.Bools.{by}
 use Rattle.digits.specs.Digits.{weight}
-use Rattle.layers.specs.declared.Curve.the-variants.{Linear}
-use Rattle.layers.specs.Limits.{layersMost}
-use Rattle.layers.specs.Lists.{at, tabulate}
-use Rattle.layers.specs.Sheet.{points, layers, inLayer, placeIn}
-use Rattle.layers.proofs.Lists.{length-tabulate, getD-tabulate}
+use Rattle.sheet.specs.declared.Curve.the-variants.{Linear}
+use Rattle.sheet.specs.Limits.{layersMost}
+use Rattle.sheet.specs.Lists.{at, tabulate}
+use Rattle.sheet.specs.Sheet.{points, layers, inLayer, placeIn}
+use Rattle.sheet.proofs.Lists.{length-tabulate, getD-tabulate}
 use Rattle.layers.proofs.Members.{in-own, own-below}
 use Rattle.layers.proofs.SheetLaw.{sheet-proper}
 use Rattle.header.specs.declared.Header.{Header}
 use Rattle.header.specs.declared.Plan.{Plan}
 use Rattle.header.specs.Header.{planesOf}
 use Rattle.header.specs.Plan.{loads, withPlane}
-use Rattle.header.specs.CardOrder.{whole}
+use Rattle.order.specs.CardOrder.{whole}
 use Rattle.header.proofs.Rightness.{Right, right-by, layers-few}
-use Rattle.header.proofs.Whole.{whole-most}
-use Rattle.card.specs.Planes.{ownLayer}
-use Rattle.card.specs.Reading.{bitOf, fine, coefRead, coefsRead}
-use Rattle.card.specs.Refining.{coefsPlus, coefsWith}
-use Rattle.card.proofs.ReadCall.{coefs-long}
+use Rattle.order.proofs.Whole.{whole-most}
+use Rattle.packing.specs.Planes.{ownLayer}
+use Rattle.loading.specs.Loading.{bitOf, fine, coefRead, coefsRead, coefsPlus, coefsWith}
+use Rattle.loading.proofs.Loads.{coefs-long}
 use Rattle.card.proofs.RefineCall.{with-is, with-other}
 use Rattle.guarantee.proofs.Coefficients.{coef-next, coef-at}
 use Rattle.guarantee.proofs.Taken.{Taken}

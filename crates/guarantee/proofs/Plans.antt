@@ -10,15 +10,15 @@ use lib.ListN.{length, take, length-take}
 use lib.Seq.{take-length}
 use Rattle.integers.proofs.Bools.{or-no-left}
 use Rattle.integers.proofs.Near.{near-le}
-use Rattle.layers.specs.declared.Shape.{Shape}
-use Rattle.layers.specs.declared.Curve.{Curve}
+use Rattle.sheet.specs.declared.Shape.{Shape}
+use Rattle.sheet.specs.declared.Curve.{Curve}
 use Rattle.layers.specs.Layering.{layering, coefs}
 use Rattle.layers.specs.Loops.{Samples}
 use Rattle.header.specs.declared.Header.{Header}
 use Rattle.header.specs.declared.Plan.{Plan}
 use Rattle.header.specs.Header.{cellBytes}
-use Rattle.header.proofs.Whole.{whole-right}
-use Rattle.card.specs.Planes.{headerFor, cardOf}
+use Rattle.order.proofs.Whole.{whole-right}
+use Rattle.packing.specs.Planes.{headerFor, cardOf}
 use Rattle.card.specs.Reading.{reading}
 use Rattle.planner.specs.Planning.{Best, PlanOf, withinLimit, better, betterByLimit, bestByLimit, cellsIn, figureIn, found, byLimit}
 use Rattle.guarantee.specs.Guarantee.{Slices, Gives}

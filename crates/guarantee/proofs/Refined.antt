@@ -4,7 +4,7 @@ use mathlib.Core.Path.{_≡_, sym, ap, _∙_, subst}
 use Prim.Native.Nat.{ℕ}
 use lib.IntN.{ℤ}
 use lib.ListN.{length, length-replicate}
-use Rattle.layers.specs.Limits.{layersMost}
+use Rattle.sheet.specs.Limits.{layersMost}
 use Rattle.header.specs.declared.Header.{Header}
 use Rattle.header.specs.Plan.{noPlan}
 use Rattle.header.specs.Opening.{opening}

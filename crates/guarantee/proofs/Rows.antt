@@ -4,18 +4,18 @@ use lib.ListN.{take}
 use Rattle.integers.specs.Floor.{floorDiv, ceilDiv}
 use Rattle.digits.specs.Digits.{value, firstFrom, loss}
 use Rattle.digits.proofs.Examples as E
-use Rattle.layers.specs.Lists.{tabulate, count, total}
-use Rattle.layers.specs.Sheet.{spacing, inLayer, layerSize, placeIn, directions}
+use Rattle.sheet.specs.Lists.{tabulate, count, total}
+use Rattle.sheet.specs.Sheet.{spacing, inLayer, layerSize, placeIn, directions}
 use Rattle.layers.specs.Prediction.{linear, line, predictedAt, width, coefficientOf, rebuiltFrom}
 use Rattle.layers.specs.Layering.{lastIn, pointBy, layerBy, valuesBy, alongside, rebuilt, written, coefs}
 use Rattle.layers.specs.Carry.{carried, standing}
 use Rattle.layers.proofs.Worked.{cubic-down, carried-twice}
 use Rattle.header.specs.Header.{planeCells, cellsOf, asciiFrom}
 use Rattle.header.specs.Plan.{firstOver}
-use Rattle.header.specs.CardOrder.{cellsBefore, isWhole, whole}
-use Rattle.header.specs.Figure.{figureOf}
-use Rattle.card.specs.Planes.{allBelow}
-use Rattle.card.specs.Reading.{bitOf, clean, hasOne, fine, badSlot, firstBad, coefRead, coefsRead}
+use Rattle.order.specs.CardOrder.{cellsBefore, isWhole, whole}
+use Rattle.figure.specs.Figure.{figureOf}
+use Rattle.packing.specs.Planes.{allBelow}
+use Rattle.loading.specs.Loading.{bitAt, clean, hasOne, fine, badSlot, firstBad, coefRead, coefsRead}
 use Rattle.planner.specs.Planning.{withUpTo, eachUpTo, listsUpTo, plansOf, before, better, bestOf, bestByLimit, bestByCells}
 use Rattle.guarantee.specs.Bench.{card, Bench}
 use Rattle.guarantee.proofs.RowsOpened.{openings}
@@ -24,7 +24,7 @@ use Rattle.guarantee.proofs.RowsCalls as C
 pub bench : Bench
 unfolding
     coefs written alongside rebuilt valuesBy layerBy tabulate pointBy predictedAt line linear coefficientOf rebuiltFrom floorDiv width
-    firstOver firstFrom whole isWhole cellsBefore firstBad badSlot fine clean hasOne bitOf allBelow coefsRead coefRead value lastIn placeIn
+    firstOver firstFrom whole isWhole cellsBefore firstBad badSlot fine clean hasOne bitAt allBelow coefsRead coefRead value lastIn placeIn
     bestByLimit bestByCells bestOf better before plansOf listsUpTo eachUpTo withUpTo
     figureOf standing carried loss cellsOf total planeCells ceilDiv layerSize count inLayer directions spacing asciiFrom
 bench =

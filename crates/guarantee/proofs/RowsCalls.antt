@@ -10,22 +10,24 @@ use lib.IntN.{ℤ}
 use lib.ListN.{length, take}
 use Rattle.integers.specs.Floor.{floorDiv, ceilDiv}
 use Rattle.digits.specs.Digits.{evens, odds, lowest, higher, digitAt, holds, firstFrom}
-use Rattle.layers.specs.declared.Curve.the-variants.{Linear}
-use Rattle.layers.specs.Lists.{tabulate, count, nth, total}
-use Rattle.layers.specs.Sheet.{layerCount, spacing, inLayer, layerSize, pointOf, directions}
-use Rattle.layers.specs.Calls.{inRange, goodPrefix, scanned}
+use Rattle.sheet.specs.declared.Curve.the-variants.{Linear}
+use Rattle.sheet.specs.Lists.{tabulate, count, nth, total}
+use Rattle.sheet.specs.Sheet.{layerCount, spacing, inLayer, layerSize, pointOf, directions}
+use Rattle.layers.specs.Calls.{full, inRange, goodPrefix, scanned}
 use Rattle.layers.proofs.Worked.{bench-coefs}
 use Rattle.text.specs.Decimal.{digitsIn, digits}
 use Rattle.text.specs.Line.{lineText}
+use Rattle.text.specs.Joined.{joined}
 use Rattle.header.specs.Refusals.{refusal}
-use Rattle.header.specs.Header.{planeCells, cellsOf, asciiFrom, listText, headerText}
+use Rattle.header.specs.Header.{planeCells, cellsOf, asciiFrom, headerText}
 use Rattle.header.specs.Plan.{loads}
 use Rattle.header.specs.Opening.{opening}
 use Rattle.header.proofs.Over.{none-over}
 use Rattle.header.proofs.Worked.{benchHeader}
-use Rattle.card.specs.Planes.{allBelow, packed, planeBit, planeBytes, atPlace, downFrom, body, enough, planesFor, countsFor, cardOf}
+use Rattle.packing.specs.Planes.{allBelow, packed, planeBit, planeBytes, atPlace, downFrom, body, enough, planesFor, countsFor, cardOf}
 use Rattle.card.specs.Writing.{outputLeast, badSizes, done, writing}
-use Rattle.card.specs.Reading.{Reading, wholeOf, firstBad, readWhole, readOpened, showing}
+use Rattle.loading.specs.Loading.{firstBad}
+use Rattle.card.specs.Reading.{Reading, wholeOf, readWhole, readOpened, showing}
 use Rattle.card.specs.Reading as R
 use Rattle.card.proofs.ReadCall.{lengths-good, checked-none}
 use Rattle.planner.specs.Planning.{bestByLimit, bestByCells, found, byLimit, byCells}
@@ -37,14 +39,14 @@ use Rattle.guarantee.proofs.RowsOpened.{opened, openings}
 -- "planes=5,1,0, cells=6", and the six planes
 card-is : cardOf shape Linear 1 coefficients ≡ card
 unfolding
-    cardOf headerText lineText digits digitsIn listText layerCount asciiFrom countsFor planesFor enough allBelow firstFrom holds evens odds
+    cardOf headerText lineText digits digitsIn joined layerCount asciiFrom countsFor planesFor enough allBelow firstFrom holds evens odds
     body downFrom atPlace planeBytes planeBit packed digitAt lowest higher floorDiv pointOf nth
     tabulate planeCells ceilDiv layerSize count inLayer directions spacing cellsOf total
 card-is = refl
 
 pub written : (qs vs : List ℤ) (out : List ℕ) → Five qs vs → outputLeast ≤ length out
     → writing samples shape Linear 1 qs vs out ≡ done samples shape Linear 1 qs vs out card
-unfolding writing badSizes scanned goodPrefix inRange
+unfolding writing badSizes full scanned goodPrefix inRange
 written qs vs out five room =
     rw (
       eq-eqb (length qs) 5 (five .coefficients),

@@ -2,13 +2,15 @@
 use mathlib.Core.Path.{_≡_, refl}
 use lib.ListN.{take}
 use Rattle.integers.specs.Floor.{ceilDiv}
-use Rattle.layers.specs.Lists.{count, total}
-use Rattle.layers.specs.Sheet.{spacing, inLayer, layerSize, directions}
+use Rattle.sheet.specs.Lists.{tabulate, count, total}
+use Rattle.sheet.specs.Sheet.{spacing, inLayer, layerSize, directions}
 use Rattle.text.specs.Decimal.{pushed, more, upTo, parsed}
-use Rattle.text.specs.Line.{before, starts, lineAt}
+use Rattle.text.specs.Text.{padded}
+use Rattle.text.specs.Line.{before, starts, hasEnd, lineAt}
+use Rattle.text.specs.Joined.{numbersIn}
 use Rattle.header.specs.Refusals.{refusal}
 use Rattle.header.specs.Header.{planeCells, cellsOf, asciiFrom}
-use Rattle.header.specs.Opening.{Opening, no, curveLine, planesMost, countsIn, openingCells, openingPlanes, openingStep, openingCurve, openingLevels, openingCols, opening}
+use Rattle.header.specs.Opening.{Opening, no, curveLine, planesMost, limits, openingCells, openingPlanes, openingStep, openingCurve, openingLevels, openingCols, opening}
 use Rattle.header.proofs.HeaderLines.{accepting}
 use Rattle.header.proofs.Worked.{benchHeader}
 use Rattle.guarantee.specs.Bench.{card}
@@ -26,6 +28,6 @@ pub record Openings : Type 0 where
 
 pub openings : Openings
 unfolding
-    opening openingCols openingLevels openingCurve openingStep openingPlanes openingCells lineAt curveLine before starts parsed upTo more pushed countsIn planesMost
+    opening openingCols openingLevels openingCurve openingStep openingPlanes openingCells lineAt curveLine before starts hasEnd parsed upTo more pushed numbersIn limits tabulate planesMost padded
     layerSize count inLayer directions spacing cellsOf total planeCells ceilDiv asciiFrom
 openings = record { whole = refl; at160 = refl; at159 = refl; at64 = refl; at63 = refl }

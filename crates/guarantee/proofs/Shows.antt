@@ -8,27 +8,27 @@ use lib.IntN.{ℤ}
 use lib.ListN.{length, take, List·getD-eq-default}
 use lib.Seq.{length-take-le}
 use Rattle.digits.specs.Digits.{loss}
-use Rattle.layers.specs.declared.Shape.{Shape}
-use Rattle.layers.specs.declared.Curve.{Curve}
-use Rattle.layers.specs.Limits.{layersMost}
-use Rattle.layers.specs.Lists.{tabulate}
-use Rattle.layers.specs.Sheet.{layers}
+use Rattle.sheet.specs.declared.Shape.{Shape}
+use Rattle.sheet.specs.declared.Curve.{Curve}
+use Rattle.sheet.specs.Limits.{layersMost}
+use Rattle.sheet.specs.Lists.{tabulate}
+use Rattle.sheet.specs.Sheet.{layers}
 use Rattle.layers.specs.Prediction.{width}
 use Rattle.layers.specs.Carry.{standing}
 use Rattle.layers.specs.Layering.{layering, coefs}
 use Rattle.layers.specs.Loops.{Samples}
-use Rattle.layers.proofs.Lists.{length-tabulate}
+use Rattle.sheet.proofs.Lists.{length-tabulate}
 use Rattle.header.specs.declared.Header.{Header}
 use Rattle.header.specs.declared.Plan.{Plan}
 use Rattle.header.specs.Header.{planesOf}
 use Rattle.header.specs.Plan.{loads}
-use Rattle.header.specs.CardOrder.{whole, wholePlan}
-use Rattle.header.specs.Figure.{figureOf}
+use Rattle.order.specs.CardOrder.{whole, wholePlan}
+use Rattle.figure.specs.Figure.{figureOf}
 use Rattle.header.proofs.Rightness.{Right, layers-few}
-use Rattle.header.proofs.Whole.{whole-past}
-use Rattle.card.specs.Planes.{headerFor, cardOf}
+use Rattle.order.proofs.Whole.{whole-past}
+use Rattle.packing.specs.Planes.{headerFor, cardOf}
 use Rattle.card.specs.Reading.{reading, showing}
-use Rattle.card.proofs.LayerPlanes.{whole-at}
+use Rattle.loading.proofs.LayerPlanes.{whole-at}
 use Rattle.card.proofs.ReadCall.{readAs}
 use Rattle.guarantee.specs.Guarantee.{Slices, Gives}
 use Rattle.guarantee.proofs.Cut.{cut-opens, cut-carries}

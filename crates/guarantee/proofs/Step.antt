@@ -10,20 +10,22 @@ use lib.IntN.{ℤ}
 use lib.ListN.{length}
 use Rattle.integers.proofs.Bools.{and-left, and-right, choice}
 use Rattle.layers.specs.Layering.{layering, rebuilt}
-use Rattle.layers.specs.Limits.{layersMost}
-use Rattle.layers.specs.Sheet.{layers}
+use Rattle.sheet.specs.Limits.{layersMost}
+use Rattle.sheet.specs.Sheet.{layers}
 use Rattle.header.specs.declared.Header.{Header}
 use Rattle.header.specs.declared.Plan.{Plan}
 use Rattle.header.specs.declared.Details.{Details}
 use Rattle.header.specs.Refusals.{refusal}
 use Rattle.header.specs.Header.{planesOf}
 use Rattle.header.specs.Plan.{loads, withPlane}
-use Rattle.header.specs.CardOrder.{whole, wholePlan}
+use Rattle.order.specs.CardOrder.{whole, wholePlan}
 use Rattle.header.proofs.Rightness.{Right, layers-few}
-use Rattle.card.specs.Reading.{Reading, fine, coefsRead}
+use Rattle.packing.specs.Planes.{allHeld}
+use Rattle.loading.specs.Loading.{fine, coefsRead}
+use Rattle.card.specs.Reading.{Reading}
 use Rattle.card.specs.Reading as R
-use Rattle.card.specs.Refining.{allHeld, refineOpened}
-use Rattle.card.proofs.LayerPlanes.{whole-at}
+use Rattle.card.specs.Refining.{refineOpened}
+use Rattle.loading.proofs.LayerPlanes.{whole-at}
 use Rattle.card.proofs.ReadCall.{readAs}
 use Rattle.card.proofs.RefineCall.{refinedAs}
 use Rattle.guarantee.specs.Refinements.{keep}

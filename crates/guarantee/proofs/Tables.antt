@@ -3,10 +3,9 @@ use mathlib.Core.Path.{sym, ap, _∙_}
 use native.Mathlib.Omega.{arith}
 use lib.IntN.{negℤ}
 use Rattle.digits.proofs.Groups.{entry-is, entry-sum, by-groups}
-use Rattle.header.proofs.Rightness.{right-yes}
-use Rattle.card.specs.Reading.{wordRead}
-use Rattle.card.proofs.LayerPlanes.{few-planes}
-use Rattle.card.proofs.ReadWords.{number-read, word-small}
+use Rattle.header.proofs.Rightness.{right-yes, few-planes}
+use Rattle.loading.specs.Loading.{wordRead}
+use Rattle.loading.proofs.ReadWords.{number-read, word-small}
 use Rattle.guarantee.specs.Groups.{Groups}
 
 pub groups : Groups

@@ -11,23 +11,25 @@ use lib.IntN.{ℤ}
 use lib.ListN.{length}
 use Rattle.integers.proofs.Bools.{by}
 use Rattle.digits.proofs.Firsts.{first-least, first-none}
-use Rattle.layers.specs.Limits.{layersMost}
-use Rattle.layers.specs.Sheet.{layers}
+use Rattle.sheet.specs.Limits.{layersMost}
+use Rattle.sheet.specs.Sheet.{layers}
 use Rattle.header.specs.declared.Header.{Header}
 use Rattle.header.specs.declared.Plan.{Plan}
 use Rattle.header.specs.Header.{planesOf}
 use Rattle.header.specs.Plan.{loads, firstOver}
 use Rattle.header.specs.Opening.{Opening, opening}
-use Rattle.header.specs.CardOrder.{whole, wholePlan}
+use Rattle.order.specs.CardOrder.{whole, wholePlan}
 use Rattle.header.proofs.HeaderLines.{accepting, lines-of, opening-of}
 use Rattle.header.proofs.Opens.{Opens, opened-right}
 use Rattle.header.proofs.Over.{none-over}
-use Rattle.header.proofs.Rightness.{Right, right-yes}
-use Rattle.card.specs.Reading.{fine, loaded, slotLayer, slotPlace, badSlot, slots, firstBad, wholeOf, firstRefusal, readOpened, reading}
-use Rattle.card.proofs.ReadCall.{readAs, lengths-good, good-lengths, checked-none, checked-passes, within}
-use Rattle.card.specs.Words.{slotNo}
-use Rattle.card.proofs.SlotOrder.{slot-is, slot-last}
-use Rattle.card.proofs.LayerPlanes.{few-planes, whole-at, loaded-yes, loaded-by}
+use Rattle.header.proofs.Rightness.{Right, right-yes, few-planes}
+use Rattle.loading.specs.Loading.{fine, loaded, slotLayer, slotPlace, badSlot, slots, firstBad}
+use Rattle.card.specs.Reading.{wholeOf, firstRefusal, readOpened, reading}
+use Rattle.loading.proofs.Loads.{within}
+use Rattle.card.proofs.ReadCall.{readAs, lengths-good, good-lengths, checked-none, checked-passes}
+use Rattle.loading.specs.Words.{slotNo}
+use Rattle.loading.proofs.SlotOrder.{slot-is, slot-last}
+use Rattle.loading.proofs.LayerPlanes.{whole-at, loaded-yes, loaded-by}
 use Rattle.guarantee.specs.Guarantee.{Slices}
 
 -- ---- what opening gives

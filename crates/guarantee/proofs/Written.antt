@@ -4,24 +4,24 @@ use mathlib.Core.List.{List}
 use mathlib.Core.Path.{_≡_, refl, ap, _∙_}
 use Prim.Native.Nat.{ℕ, suc}
 use native.Mathlib.Omega.{arith}
-use borrow.Author.Tests.{ltb-false, eqb-true}
-use lib.Dec.{ltb, leb, eqb}
+use borrow.Author.Tests.{ltb-false}
+use lib.Dec.{ltb, leb}
 use lib.IntN.{ℤ}
 use lib.ListN.{length}
 use Rattle.integers.proofs.Bools.{by, and-left, or-no-left, or-no-right}
-use Rattle.layers.specs.declared.Shape.{Shape}
-use Rattle.layers.specs.declared.Curve.{Curve}
+use Rattle.sheet.specs.declared.Shape.{Shape}
+use Rattle.sheet.specs.declared.Curve.{Curve}
 use Rattle.layers.specs.declared.Scan.{Scan}
 use Rattle.layers.specs.declared.Scan.the-variants.{Clear, OutAt}
-use Rattle.layers.specs.Limits.{levelsMost, stepMost}
-use Rattle.layers.specs.Sheet.{points}
+use Rattle.sheet.specs.Limits.{levelsMost, stepMost}
+use Rattle.sheet.specs.Sheet.{points}
 use Rattle.layers.specs.Layering.{layering, coefs}
-use Rattle.layers.specs.Calls.{scanned}
+use Rattle.layers.specs.Calls.{full, scanned}
 use Rattle.layers.specs.Loops.{Samples}
-use Rattle.layers.proofs.Accepting.{sized-by, accepted-yes}
-use Rattle.layers.proofs.Fits.{sheet-small}
-use Rattle.layers.proofs.Answers.{clear-within, scans-clear}
-use Rattle.card.specs.Planes.{cardOf}
+use Rattle.sheet.proofs.Accepting.{sized-by, accepted-yes}
+use Rattle.sheet.proofs.Fits.{sheet-small}
+use Rattle.layers.proofs.Answers.{clear-within, scans-clear, full-long}
+use Rattle.packing.specs.Planes.{cardOf}
 use Rattle.card.specs.Writing.{outputLeast, badSizes, badSettings, goodLengths, afterScan, done, writing}
 use Rattle.card.proofs.BadSizes.{bad-sizes}
 use Rattle.card.proofs.Writes.{good-settings, good-lengths, shape-accepted}
@@ -63,9 +63,7 @@ module _ (g : List ℤ) (sh : Shape) (curve : Curve) (e : ℕ) (qs vs : List ℤ
   passes-samples flat t =
       let deep = ltb-false levelsMost (sh .levels) (or-no-left (ltb levelsMost (sh .levels)) (ltb stepMost e) (t .settings)) in
       let wide = ltb-false stepMost e (or-no-right (ltb levelsMost (sh .levels)) (ltb stepMost e) (t .settings)) in
-      let full = eqb (length g) (points sh) in
-      let rest = eqb (length qs) (points sh) in
-      let long : length g ≡ points sh = eqb-true _ _ (and-left full rest (and-left (full && rest) (eqb (length vs) (points sh) && leb outputLeast (length out)) (t .lengths))) in
+      let long : length g ≡ points sh = full-long sh g (and-left (full sh g) (full sh qs) (and-left (full sh g && full sh qs) (full sh vs && leb outputLeast (length out)) (t .lengths))) in
       record {
         shape = shape-accepted g sh curve e qs vs out (t .sizes) deep wide flat;
         step = wide;

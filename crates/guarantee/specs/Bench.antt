@@ -5,10 +5,10 @@ use Prim.Native.Nat.{ℕ, _-_, _≤_}
 use lib.IntN.{ℤ, pos, negsuc}
 use lib.ListN.{length, replicate, take, drop}
 use Rattle.digits.specs.Digits.{digitsOf, fewest}
-use Rattle.layers.specs.declared.Shape.{Shape}
-use Rattle.layers.specs.declared.Curve.the-variants.{Linear, Cubic}
-use Rattle.layers.specs.Limits.{layersMost}
-use Rattle.layers.specs.Sheet.{sheetOf}
+use Rattle.sheet.specs.declared.Shape.{Shape}
+use Rattle.sheet.specs.declared.Curve.the-variants.{Linear, Cubic}
+use Rattle.sheet.specs.Limits.{layersMost}
+use Rattle.sheet.specs.Sheet.{sheetOf}
 use Rattle.layers.specs.Prediction.{cubic}
 use Rattle.layers.specs.Carry.{carried}
 use Rattle.header.specs.declared.Plan.{Plan}

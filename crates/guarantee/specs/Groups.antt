@@ -7,10 +7,10 @@ use Prim.Native.Nat.{ℕ, _<_}
 use lib.IntN.{pos, negℤ}
 use lib.ListN.{getD}
 use Rattle.digits.specs.Digits.{value, bitsOf, groupValues, byGroups}
-use Rattle.layers.specs.Sheet.{layers}
+use Rattle.sheet.specs.Sheet.{layers}
 use Rattle.header.specs.declared.Header.{Header}
 use Rattle.header.specs.Opening.{right}
-use Rattle.card.specs.Reading.{coefRead, wordRead}
+use Rattle.loading.specs.Loading.{coefRead, wordRead}
 
 pub record Groups : Type 0 where
   -- each entry is the sum of its eight digits

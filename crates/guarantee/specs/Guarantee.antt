@@ -7,16 +7,16 @@ use lib.IntN.{ℤ}
 use lib.ListN.{length, take}
 use Rattle.integers.specs.Distance.{Near}
 use Rattle.digits.specs.Digits.{loss}
-use Rattle.layers.specs.declared.Shape.{Shape}
-use Rattle.layers.specs.declared.Curve.{Curve}
-use Rattle.layers.specs.Lists.{at}
-use Rattle.layers.specs.Sheet.{sheetOf, points, layers}
+use Rattle.sheet.specs.declared.Shape.{Shape}
+use Rattle.sheet.specs.declared.Curve.{Curve}
+use Rattle.sheet.specs.Lists.{at}
+use Rattle.sheet.specs.Sheet.{sheetOf, points, layers}
 use Rattle.layers.specs.Prediction.{width}
 use Rattle.layers.specs.Carry.{standing}
 use Rattle.header.specs.declared.Header.{Header}
 use Rattle.header.specs.Header.{headerText, planesOf}
-use Rattle.header.specs.CardOrder.{whole}
-use Rattle.card.specs.Planes.{headerFor}
+use Rattle.order.specs.CardOrder.{whole}
+use Rattle.packing.specs.Planes.{headerFor}
 use Rattle.card.specs.Writing.{Writing, writing}
 use Rattle.card.specs.Reading.{Reading, reading, showing}
 use Rattle.planner.specs.Planning.{Planning, PlanOf, cellsIn, figureIn, byLimit}

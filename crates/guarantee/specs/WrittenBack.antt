@@ -6,8 +6,8 @@ use Prim.Native.Nat.{ℕ, _+_, _*_, _<_, _≤_}
 use lib.IntN.{ℤ}
 use lib.ListN.{length, getD, drop}
 use Rattle.integers.specs.Distance.{Within}
-use Rattle.layers.specs.Limits.{sampleMost}
-use Rattle.layers.specs.Lists.{at}
+use Rattle.sheet.specs.Limits.{sampleMost}
+use Rattle.sheet.specs.Lists.{at}
 use Rattle.header.specs.declared.Header.{Header}
 use Rattle.header.specs.Refusals.{refusal}
 use Rattle.header.specs.Header.{cellBytes}

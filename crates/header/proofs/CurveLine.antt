@@ -4,16 +4,16 @@ use mathlib.Core.List.{List, _++_, append-nil}
 use mathlib.Core.Path.{_≡_, refl, _∙_}
 use Prim.Native.Nat.{ℕ, _+_}
 use native.Mathlib.Omega.{arith}
-use borrow.Author.Tests.{ltb-true, eqb-true}
-use lib.Dec.{ltb, eqb}
+use borrow.Author.Tests.{eqb-true}
+use lib.Dec.{eqb}
 use lib.ListN.{length, take, drop-of-length-le}
-use Rattle.layers.specs.declared.Curve.{Curve}
-use Rattle.layers.specs.declared.Curve.the-variants.{Linear, Cubic}
+use Rattle.sheet.specs.declared.Curve.{Curve}
+use Rattle.sheet.specs.declared.Curve.the-variants.{Linear, Cubic}
 use Rattle.integers.proofs.Bools.{and-left, and-right}
 use Rattle.text.specs.declared.Line.the-variants as L
-use Rattle.text.specs.Line.{newline, before, starts}
+use Rattle.text.specs.Line.{newline, before, starts, hasEnd}
 use Rattle.text.proofs.Lines.{not-short, not-wrong}
-use Rattle.text.proofs.Search.{Free, starts-split}
+use Rattle.text.proofs.Search.{Free, end-inside, starts-split}
 use Rattle.header.specs.Header.{asciiFrom, ascii, curveText}
 use Rattle.header.specs.Opening.{same, curveLine, curveOf}
 use Rattle.header.proofs.Ends.{ended, Ends, ends-at, seam-end, seam-inside, seam-front, seam-length}
@@ -40,19 +40,19 @@ same-is key l e =
 pub read-curve : (l : List ℕ) (v n : ℕ) → curveLine l ≡ L.Number v n → Ends l (curveWords (curveOf v)) n
 unfolding curveLine
 read-curve l v n e =
-    by (ltb (before newline l) (length l)) (same (curveWords Linear) (take (before newline l) l)) (same (curveWords Cubic) (take (before newline l) l)) refl refl refl e
+    by (hasEnd l) (same (curveWords Linear) (take (before newline l) l)) (same (curveWords Cubic) (take (before newline l) l)) refl refl refl e
   where
-    by : (a b c : Bool) → ltb (before newline l) (length l) ≡ a → same (curveWords Linear) (take (before newline l) l) ≡ b → same (curveWords Cubic) (take (before newline l) l) ≡ c
+    by : (a b c : Bool) → hasEnd l ≡ a → same (curveWords Linear) (take (before newline l) l) ≡ b → same (curveWords Cubic) (take (before newline l) l) ≡ c
         → cond a (cond b (L.Number 0 (before newline l + 1)) (cond c (L.Number 1 (before newline l + 1)) L.Wrong)) L.Short ≡ L.Number v n → Ends l (curveWords (curveOf v)) n
     by false b c s p q e = absurd (not-short e)
     by true true c s p q e =
         let is : 0 ≡ v = cc in
         let end : before newline l + 1 ≡ n = cc in
-        rw (← is, ← end) (ends-at l (curveWords Linear) (ltb-true _ _ s) (same-is (curveWords Linear) _ p))
+        rw (← is, ← end) (ends-at l (curveWords Linear) (end-inside l s) (same-is (curveWords Linear) _ p))
     by true false true s p q e =
         let is : 1 ≡ v = cc in
         let end : before newline l + 1 ≡ n = cc in
-        rw (← is, ← end) (ends-at l (curveWords Cubic) (ltb-true _ _ s) (same-is (curveWords Cubic) _ q))
+        rw (← is, ← end) (ends-at l (curveWords Cubic) (end-inside l s) (same-is (curveWords Cubic) _ q))
     by true false false s p q e = absurd (not-wrong e)
 
 -- ---- written
@@ -64,7 +64,7 @@ curve-free Cubic = refl
 pub written-curve : (c : Curve) (rest : List ℕ) → curveLine (ended (curveWords c) ++ rest) ≡ L.Number (curveCode c) (length (ended (curveWords c)))
 unfolding curveLine
 written-curve c rest =
-    rw (seam-end (curveWords c) rest (curve-free c), seam-inside (curveWords c) rest (curve-free c), seam-front (curveWords c) rest (curve-free c), seam-length (curveWords c)) (words c)
+    rw (seam-inside (curveWords c) rest (curve-free c), seam-end (curveWords c) rest (curve-free c), seam-front (curveWords c) rest (curve-free c), seam-length (curveWords c)) (words c)
   where
     words : (c : Curve)
         → cond (same (curveWords Linear) (curveWords c)) (L.Number 0 (length (ended (curveWords c))))

@@ -5,23 +5,23 @@ use mathlib.Core.Path.{_≡_, ap, sym, _∙_}
 use Prim.Native.Nat.{ℕ, _+_, _-_, _*_, _/_, _<_, _≤_}
 use native.Mathlib.Decide.{decLt}
 use native.Mathlib.Omega.{arith}
-use borrow.Author.Tests.{lt-ltb, le-ltb}
-use lib.Dec.{ltb}
+use borrow.Author.Tests.{lt-ltb}
 use lib.ListN.{length, take, drop, length-take}
 use lib.Seq.{take-append-add, take-take}
-use Rattle.layers.specs.declared.Shape.{Shape}
-use Rattle.layers.specs.Limits.{pointsMost, levelsMost, layersMost, stepMost}
-use Rattle.layers.specs.Sheet.{sheetOf}
-use Rattle.layers.proofs.Flat.{flat-shape}
+use Rattle.sheet.specs.declared.Shape.{Shape}
+use Rattle.sheet.specs.Limits.{pointsMost, levelsMost, layersMost, stepMost}
+use Rattle.sheet.specs.Sheet.{sheetOf}
+use Rattle.sheet.proofs.Flat.{flat-shape}
 use Rattle.text.specs.declared.Line.the-variants as L
-use Rattle.text.specs.Line.{newline, before, lineAt}
+use Rattle.text.specs.Text.{padded}
+use Rattle.text.specs.Line.{newline, before, hasEnd, lineAt}
 use Rattle.text.proofs.Lines.{written, short-take, number-take}
-use Rattle.text.proofs.Search.{before-take, before-le}
+use Rattle.text.proofs.Search.{before-take, before-le, has-end, no-end}
 use Rattle.header.specs.declared.Header.{Header}
 use Rattle.header.specs.Refusals.{refusal}
 use Rattle.header.specs.Header.{ascii, cellBytes, headerText}
 use Rattle.header.specs.Opening as O
-use Rattle.header.specs.Opening.{Opening, taking, takingPlanes, curveLine, padded, openingCells, openingPlanes, openingStep, openingCurve, openingLevels, openingCols, opening, right}
+use Rattle.header.specs.Opening.{Opening, taking, takingPlanes, curveLine, openingCells, openingPlanes, openingStep, openingCurve, openingLevels, openingCols, opening, right}
 use Rattle.header.proofs.Ends.{drop-take}
 use Rattle.header.proofs.CurveLine.{read-curve}
 use Rattle.header.proofs.Turns.{PlanesLine}
@@ -41,11 +41,11 @@ module _ (m : ℕ) (l : List ℕ) where
     front-kept : take (before newline l) (take m l) ≡ take (before newline l) l
     front-kept = take-take (before newline l) m l (omega arith)
 
-  end-lost : m ≤ before newline l → ltb (before newline (take m l)) (length (take m l)) ≡ false
-  end-lost h = le-ltb (before newline (take m l)) (length (take m l)) (omega (arith, before-take newline m l, length-take m l, before-le newline l))
+  end-lost : m ≤ before newline l → hasEnd (take m l) ≡ false
+  end-lost h = no-end (take m l) (omega (arith, before-take newline m l, length-take m l, before-le newline l))
 
   curve-same : before newline l < length l → before newline l + 1 ≤ m → curveLine (take m l) ≡ curveLine l
-  unfolding curveLine
+  unfolding curveLine hasEnd
   curve-same i k = simp (end-kept i k, front-kept i k, lt-ltb (before newline l) (length (take m l)) (inside-kept i k), lt-ltb (before newline l) (length l) i)
 
   curve-kept : (v n : ℕ) → curveLine l ≡ L.Number v n → n ≤ m → curveLine (take m l) ≡ L.Number v n
@@ -68,8 +68,8 @@ module _ (m : ℕ) (l : List ℕ) where
   planes-lost : (sh : Shape) (go : List ℕ → ℕ → Opening) → m ≤ before newline l → takingPlanes sh (take m l) go ≡ O.no (refusal 5 0 0)
   planes-lost sh go h = rw (end-lost h)
 
-planes-go : (sh : Shape) (l counts : List ℕ) (go : List ℕ → ℕ → Opening) → PlanesLine sh l counts → takingPlanes sh l go ≡ go (padded counts) (before newline l + 1)
-planes-go sh l counts go p = rw (lt-ltb (before newline l) (length l) (p .inside), p .key, p .counts-are)
+planes-go : (sh : Shape) (l counts : List ℕ) (go : List ℕ → ℕ → Opening) → PlanesLine sh l counts → takingPlanes sh l go ≡ go (padded layersMost counts) (before newline l + 1)
+planes-go sh l counts go p = rw (has-end l (p .inside), p .key, p .counts-are)
 
 -- ---- a line in turn: it is cut, or what follows it is
 module _ (bs : List ℕ) (n : ℕ) where

@@ -5,15 +5,13 @@ use mathlib.Core.Path.{_≡_, refl, ap, sym, _∙_}
 use Prim.Native.Nat.{ℕ, zero, suc, _+_, _-_, _<_, _≤_}
 use native.Mathlib.Numerals.{add-one}
 use native.Mathlib.Omega.{arith}
-use borrow.Author.Tests.{lt-ltb}
-use lib.Dec.{ltb}
 use lib.ListN.{length, take, drop, length-append, length-take, take-append-drop}
 use lib.Seq.{take-suc, take-append-seam, append-snoc, drop-drop, drop-append-seam, take-nil}
 use Rattle.text.specs.declared.Line.the-variants as L
 use Rattle.text.specs.Decimal.{digits}
-use Rattle.text.specs.Line.{newline, before, lineAt, lineText}
+use Rattle.text.specs.Line.{newline, before, hasEnd, lineAt, lineText}
 use Rattle.text.proofs.Lines.{Written, written}
-use Rattle.text.proofs.Search.{Free, found, before-seam}
+use Rattle.text.proofs.Search.{Free, found, has-end, before-seam}
 
 abbrev pub ended : List ℕ → List ℕ
 ended t = t ++ newline ∷ []
@@ -67,8 +65,8 @@ module _ (t rest : List ℕ) (free : Free newline t) where
   pub seam-end : before newline (ended t ++ rest) ≡ length t
   seam-end = rw (append-snoc t newline rest) (before-seam newline t rest free)
 
-  pub seam-inside : ltb (length t) (length (ended t ++ rest)) ≡ true
-  seam-inside = lt-ltb (length t) (length (ended t ++ rest)) (omega (arith, length-append (ended t) rest, length-append t (newline ∷ [])))
+  pub seam-inside : hasEnd (ended t ++ rest) ≡ true
+  seam-inside = has-end (ended t ++ rest) (omega (arith, seam-end, length-append (ended t) rest, length-append t (newline ∷ [])))
 
   pub seam-front : take (length t) (ended t ++ rest) ≡ t
   seam-front = rw (append-snoc t newline rest) (take-append-seam t (newline ∷ rest))

@@ -6,8 +6,8 @@ use native.Mathlib.Omega.{arith}
 use borrow.Author.Count.{below-none, below-more}
 use lib.ListN.{length, getD, set, length-set}
 use lib.Seq.{ext-getD, getD-set-same, getD-set-other}
-use Rattle.layers.specs.Lists.{tabulate}
-use Rattle.layers.proofs.Lists.{length-tabulate, getD-tabulate}
+use Rattle.sheet.specs.Lists.{tabulate}
+use Rattle.sheet.proofs.Lists.{length-tabulate, getD-tabulate}
 
 pub record Filled (f : ℕ → ℕ) (n k : ℕ) (l : List ℕ) : Type 0 where
   pub long : length l ≡ n

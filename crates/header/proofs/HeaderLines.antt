@@ -4,21 +4,23 @@ use mathlib.Core.List.{List}
 use mathlib.Core.Path.{_≡_, refl}
 use Prim.Native.Nat.{ℕ, suc, _+_, _*_, _/_, _≤_}
 use native.Mathlib.Omega.{arith}
-use borrow.Author.Tests.{lt-ltb, le-ltb, ltb-false}
+use borrow.Author.Tests.{le-ltb, ltb-false}
 use lib.Dec.{ltb}
 use lib.ListN.{length, drop}
-use Rattle.layers.specs.declared.Shape.{Shape}
-use Rattle.layers.specs.declared.Curve.{Curve}
-use Rattle.layers.specs.Limits.{pointsMost, levelsMost, stepMost}
-use Rattle.layers.specs.Sheet.{sheetOf}
-use Rattle.layers.proofs.Flat.{flat-shape}
+use Rattle.sheet.specs.declared.Shape.{Shape}
+use Rattle.sheet.specs.declared.Curve.{Curve}
+use Rattle.sheet.specs.Limits.{pointsMost, levelsMost, layersMost, stepMost}
+use Rattle.sheet.specs.Sheet.{sheetOf}
+use Rattle.sheet.proofs.Flat.{flat-shape}
 use Rattle.integers.proofs.Bools.{choice}
 use Rattle.text.specs.declared.Line.the-variants as L
+use Rattle.text.specs.Text.{padded}
 use Rattle.text.specs.Line.{newline, before, lineAt}
+use Rattle.text.proofs.Search.{has-end}
 use Rattle.header.specs.declared.Header.{Header}
 use Rattle.header.specs.Refusals.{refusal}
 use Rattle.header.specs.Header.{cellBytes, ascii, cellsOf}
-use Rattle.header.specs.Opening.{Opening, no, curveLine, curveOf, padded, openingCells, openingPlanes, openingStep, openingCurve, openingLevels, openingCols, opening}
+use Rattle.header.specs.Opening.{Opening, no, curveLine, curveOf, openingCells, openingPlanes, openingStep, openingCurve, openingLevels, openingCols, opening}
 use Rattle.header.proofs.Turns.{PlanesLine, turn, turn-planes}
 
 pub record HeaderLines (bs : List ℕ) (h : Header) (long : ℕ) : Type 0 where
@@ -42,7 +44,7 @@ pub record HeaderLines (bs : List ℕ) (h : Header) (long : ℕ) : Type 0 where
   pub counts : List ℕ
   pub planes-line : PlanesLine (h .shape) (drop (n₁ + n₂ + n₃ + n₄ + n₅) bs) counts
   pub planes-end : n₆ ≡ before newline (drop (n₁ + n₂ + n₃ + n₄ + n₅) bs) + 1
-  pub planes-are : h .planes ≡ padded counts
+  pub planes-are : h .planes ≡ padded layersMost counts
   pub total : ℕ
   pub cells-line : lineAt (ascii "cells=") (h .cells) (h .cells) (drop (n₁ + n₂ + n₃ + n₄ + n₅ + n₆) bs) ≡ L.Number total n₇
   pub cells-are : h .cells ≡ cellsOf (h .shape) (h .planes)
@@ -82,7 +84,7 @@ module _ (bs : List ℕ) where
       let at = n₁ + n₂ + n₃ + n₄ + n₅ in
       turn-planes Lined sh (drop at bs) (λ planes n. openingCells bs (headed sh (curveOf v) step planes) (at + n)) (refused 4 0 0) (refused 5 6 0) (λ counts e₆.
       let n₆ = before newline (drop at bs) + 1 in
-      let h = headed sh (curveOf v) step (padded counts) in
+      let h = headed sh (curveOf v) step (padded layersMost counts) in
       turn Lined 7 (lineAt (ascii "cells=") (h .cells) (h .cells) (drop (at + n₆) bs)) (λ _ n. closing bs h (at + n₆ + n)) (refused 4 0 0) (refused 5 7 0) (λ total n₇ e₇.
       choice Lined (ltb (at + n₆ + n₇ + cellBytes * h .cells) (length bs)) (λ _. refused 6 0 0) (λ e _.
       record {
@@ -127,7 +129,7 @@ opening-of bs h long s =
       ← flat-shape (h .shape) (s .flat),
       s .curve-line,
       s .step-line,
-      lt-ltb _ _ (s .planes-line .inside),
+      has-end _ (s .planes-line .inside),
       s .planes-line .key,
       s .planes-line .counts-are,
       ← s .planes-end,

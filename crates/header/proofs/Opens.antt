@@ -1,28 +1,31 @@
 -- What opening accepts is the header as it is printed and at most its cells behind it: each line that is read is the line as it is written, so the lines make the header's text, and their numbers are in range.
 use mathlib.Core.Bool.{true}
 use mathlib.Core.List.{List, _++_}
-use mathlib.Core.Path.{_≡_, refl, ap, _∙_}
+use mathlib.Core.Path.{_≡_, ap, _∙_}
 use Prim.Native.Nat.{ℕ, _+_, _-_, _*_, _/_, _<_, _≤_}
 use native.Mathlib.Omega.{arith}
 use borrow.Author.Tests.{ltb-true, ltb-false}
 use lib.Dec.{ltb}
 use lib.ListN.{length, take, drop, getD, replicate, length-append, length-drop, length-replicate, List·getD-append}
-use lib.Seq.{take-at, getD-append-add}
-use Rattle.layers.specs.declared.Shape.{Shape}
-use Rattle.layers.specs.Limits.{pointsMost, levelsMost, layersMost, stepMost}
-use Rattle.layers.specs.Sheet.{layers, layerCount}
-use Rattle.layers.proofs.Accepting.{Sheet, accepted-by, layers-few, count-is}
-use Rattle.layers.proofs.Flat.{flat-points}
-use Rattle.layers.proofs.Lists.{getD-zeros}
+use lib.Seq.{getD-append-add}
+use Rattle.sheet.specs.declared.Shape.{Shape}
+use Rattle.sheet.specs.Limits.{pointsMost, levelsMost, layersMost, stepMost}
+use Rattle.sheet.specs.Sheet.{layerCount}
+use Rattle.sheet.proofs.Accepting.{Sheet, accepted-by, layers-few, count-is}
+use Rattle.sheet.proofs.Flat.{flat-points}
+use Rattle.sheet.proofs.Lists.{getD-zeros}
 use Rattle.integers.proofs.Bools.{by}
+use Rattle.text.specs.Text.{padded}
 use Rattle.text.specs.Line.{newline, before, lineText}
+use Rattle.text.specs.Joined.{joined}
+use Rattle.text.proofs.Padding.{padded-take}
 use Rattle.text.proofs.Lines.{Written, written}
 use Rattle.text.proofs.Search.{starts-split}
 use Rattle.header.specs.declared.Header.{Header}
-use Rattle.header.specs.Header.{cellBytes, ascii, listText, planesOf, headerText}
-use Rattle.header.specs.Opening.{padded, planesMost, right, opening}
+use Rattle.header.specs.Header.{cellBytes, ascii, planesOf, headerText}
+use Rattle.header.specs.Opening.{planesMost, right, opening}
 use Rattle.header.proofs.Rightness.{Right, right-by}
-use Rattle.header.proofs.ListText.{Counted, written-counts}
+use Rattle.header.proofs.Counts.{Counted, counts-read}
 use Rattle.header.proofs.Ends.{Ends, ends-at, ends-number, Front, front-first, front-next}
 use Rattle.header.proofs.CurveLine.{read-curve}
 use Rattle.header.proofs.Taking.{product-most}
@@ -38,26 +41,26 @@ pub record Opens (bs : List ℕ) (h : Header) (long : ℕ) : Type 0 where
 
 -- ---- the counts behind the last layer
 module _ (counts : List ℕ) (few : length counts ≤ layersMost) where
-  pub padded-length : length (padded counts) ≡ layersMost
+  pub padded-length : length (padded layersMost counts) ≡ layersMost
+  unfolding padded
   padded-length = omega (arith, length-append counts (replicate (layersMost - length counts) 0), length-replicate {A = ℕ} (layersMost - length counts) 0)
 
-  pub padded-front : take (length counts) (padded counts) ≡ counts
-  padded-front = take-at counts (replicate (layersMost - length counts) 0) (length counts) refl
-
-  pub padded-in : (k : ℕ) → k < length counts → getD (padded counts) k 0 ≡ getD counts k 0
+  pub padded-in : (k : ℕ) → k < length counts → getD (padded layersMost counts) k 0 ≡ getD counts k 0
+  unfolding padded
   padded-in k l = List·getD-append counts (replicate (layersMost - length counts) 0) 0 k l
 
-pub padded-past : (counts : List ℕ) (k : ℕ) → length counts ≤ k → getD (padded counts) k 0 ≡ 0
+pub padded-past : (counts : List ℕ) (k : ℕ) → length counts ≤ k → getD (padded layersMost counts) k 0 ≡ 0
+unfolding padded
 padded-past counts k p =
     let e : length counts + (k - length counts) ≡ k = omega arith in
     (rw e at (getD-append-add counts (replicate (layersMost - length counts) 0) (k - length counts) 0)) ∙ getD-zeros (layersMost - length counts) (k - length counts)
 
 -- ---- line 6
-read-planes : (sh : Shape) (l counts : List ℕ) → PlanesLine sh l counts → Ends l (ascii "planes=" ++ listText counts) (before newline l + 1)
+read-planes : (sh : Shape) (l counts : List ℕ) → PlanesLine sh l counts → Ends l (ascii "planes=" ++ joined counts) (before newline l + 1)
 read-planes sh l counts p =
-    ends-at l (ascii "planes=" ++ listText counts) (p .inside)
+    ends-at l (ascii "planes=" ++ joined counts) (p .inside)
     (starts-split (ascii "planes=") (take (before newline l) l) (p .key)
-    ∙ ap (λ (a : List ℕ). ascii "planes=" ++ a) (written-counts sh (layers sh) 0 _ counts (p .counts-are) .text-is))
+    ∙ ap (λ (a : List ℕ). ascii "planes=" ++ a) (counts-read sh _ counts (p .counts-are) .text-is))
 
 module _ (bs : List ℕ) (h : Header) (long : ℕ) (s : HeaderLines bs h long) where
   sizes : Sheet (h .shape)
@@ -77,8 +80,8 @@ module _ (bs : List ℕ) (h : Header) (long : ℕ) (s : HeaderLines bs h long) w
   abbrev line : List ℕ
   line = drop (s .n₁ + s .n₂ + s .n₃ + s .n₄ + s .n₅) bs
 
-  counted : Counted (h .shape) 0 (drop (length (ascii "planes=")) (take (before newline line) line)) (layers (h .shape)) (s .counts)
-  counted = written-counts (h .shape) (layers (h .shape)) 0 _ (s .counts) (s .planes-line .counts-are)
+  counted : Counted (h .shape) (drop (length (ascii "planes=")) (take (before newline line) line)) (s .counts)
+  counted = counts-read (h .shape) _ (s .counts) (s .planes-line .counts-are)
 
   few : length (s .counts) ≤ layersMost
   few = omega (arith, counted .long, layers-few (h .shape) sizes)
@@ -98,14 +101,13 @@ module _ (bs : List ℕ) (h : Header) (long : ℕ) (s : HeaderLines bs h long) w
           (by (ltb k (length (s .counts)))
           (λ t.
           let inside : k < length (s .counts) = ltb-true _ _ t in
-          let z : 0 + k ≡ k = omega arith in
-          rw (padded-in (s .counts) few k inside) (rw z at (counted .most k (omega (arith, counted .long)))))
+          rw (padded-in (s .counts) few k inside) (counted .most k (omega (arith, counted .long))))
           (λ t. rw (padded-past (s .counts) k (ltb-false k (length (s .counts)) t)) (omega arith)))
 
   counts-listed : take (layerCount (h .shape)) (h .planes) ≡ s .counts
   counts-listed =
       let e : layerCount (h .shape) ≡ length (s .counts) = omega (arith, counted .long, count-is (h .shape) (accepted-by (h .shape) sizes)) in
-      rw (e, s .planes-are) (padded-front (s .counts) few)
+      rw (e, s .planes-are) (padded-take layersMost (s .counts))
 
   lines-front : Front bs (headerText h) (s .n₁ + s .n₂ + s .n₃ + s .n₄ + s .n₅ + s .n₆ + s .n₇)
   unfolding headerText lineText

@@ -7,9 +7,9 @@ use borrow.Author.Tests.{ltb-false, lt-ltb, le-ltb}
 use lib.Dec.{ltb}
 use lib.ListN.{getD}
 use Rattle.digits.proofs.Firsts.{first-le, first-least, first-at, first-none, first-same}
-use Rattle.layers.specs.Limits.{layersMost}
-use Rattle.layers.specs.Lists.{tabulate}
-use Rattle.layers.proofs.Lists.{getD-tabulate}
+use Rattle.sheet.specs.Limits.{layersMost}
+use Rattle.sheet.specs.Lists.{tabulate}
+use Rattle.sheet.proofs.Lists.{getD-tabulate}
 use Rattle.header.specs.Plan.{firstOver}
 
 module _ (limit plan : ℕ → ℕ) where

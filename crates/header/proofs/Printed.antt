@@ -6,21 +6,23 @@ use mathlib.Core.Path.{_≡_, refl, ap, sym, _∙_}
 use Prim.Native.Nat.{ℕ, _+_, _-_, _*_, _/_, _<_, _≤_}
 use native.Mathlib.Nat.{le-div-iff-mul-le, mul-comm}
 use native.Mathlib.Omega.{arith}
-use borrow.Author.Tests.{ltb-true}
 use lib.ListN.{length, take, drop, getD, replicate, length-append, length-take, length-drop, length-replicate, take-append-drop, getD-replicate}
 use lib.Seq.{getD-take, getD-drop, ext-getD, drop-append-seam}
-use Rattle.layers.specs.Limits.{pointsMost, levelsMost, layersMost, stepMost}
-use Rattle.layers.specs.Sheet.{layers, layerCount}
-use Rattle.layers.proofs.Accepting.{Sheet, accepted-yes, count-is}
-use Rattle.layers.proofs.Fits.{sheet-small, rows-small}
+use Rattle.sheet.specs.Limits.{pointsMost, levelsMost, layersMost, stepMost}
+use Rattle.sheet.specs.Sheet.{layers, layerCount}
+use Rattle.sheet.proofs.Accepting.{Sheet, accepted-yes, count-is}
+use Rattle.sheet.proofs.Fits.{sheet-small, rows-small}
+use Rattle.text.specs.Text.{padded}
 use Rattle.text.specs.Line.{newline, before, lineAt, lineText}
+use Rattle.text.specs.Joined.{joined, numbersIn}
+use Rattle.text.proofs.Joins.{joined-free}
 use Rattle.text.proofs.Lines.{read-written}
-use Rattle.text.proofs.Search.{Free, free-append, starts-append}
+use Rattle.text.proofs.Search.{Free, end-inside, free-append, starts-append}
 use Rattle.header.specs.declared.Header.{Header}
-use Rattle.header.specs.Header.{asciiFrom, ascii, cellBytes, listText, headerText}
-use Rattle.header.specs.Opening.{padded, countsIn, right, opening}
+use Rattle.header.specs.Header.{asciiFrom, ascii, cellBytes, headerText}
+use Rattle.header.specs.Opening.{limits, right, opening}
 use Rattle.header.proofs.Rightness.{Right, right-yes, one-sheet, layers-few, counts-past}
-use Rattle.header.proofs.ListText.{list-free, read-counts}
+use Rattle.header.proofs.Counts.{counts-written}
 use Rattle.header.proofs.Ends.{ended, seam-end, seam-inside, seam-front, seam-length, rest-next}
 use Rattle.header.proofs.CurveLine.{curveWords, curveCode, code-curve, written-curve}
 use Rattle.header.proofs.Turns.{PlanesLine}
@@ -34,7 +36,8 @@ module _ (h : Header) (r : Right h) (full : length (h .planes) ≡ layersMost) w
   counts-length = omega (arith, count-is (h .shape) (r .shape), length-take (layerCount (h .shape)) (h .planes), layers-few r)
 
   -- past the last layer the counts are 0, so padding gives them back
-  counts-padded : padded counts ≡ h .planes
+  counts-padded : padded layersMost counts ≡ h .planes
+  unfolding padded
   counts-padded =
       ap (λ (l : List ℕ). counts ++ l) (ext-getD 0 (replicate (layersMost - length counts) 0) (drop (layerCount (h .shape)) (h .planes)) same-length each)
       ∙ take-append-drop (layerCount (h .shape)) (h .planes)
@@ -50,27 +53,25 @@ module _ (h : Header) (r : Right h) (full : length (h .planes) ≡ layersMost) w
 
   -- ---- line 6
   abbrev words : List ℕ
-  words = ascii "planes=" ++ listText counts
+  words = ascii "planes=" ++ joined counts
 
   words-free : Free newline words
-  words-free = free-append newline (ascii "planes=") (listText counts) (unfold asciiFrom before in refl) (list-free counts)
+  words-free = free-append newline (ascii "planes=") (joined counts) (unfold asciiFrom before in refl) (joined-free counts)
 
-  counts-read : countsIn (h .shape) (layers (h .shape)) 0 (listText counts) ≡ some counts
+  counts-read : numbersIn (limits (h .shape)) (joined counts) ≡ some counts
   counts-read =
-      rw counts-length at
-      (read-counts (h .shape) 0 counts (omega (arith, counts-length))
+      counts-written (h .shape) counts counts-length
       (λ i l.
-      let z : 0 + i ≡ i = omega arith in
-      let inside : i < layerCount (h .shape) = omega (arith, counts-length, count-is (h .shape) (r .shape)) in
-      rw (z, getD-take (layerCount (h .shape)) (h .planes) i 0 inside) (r .counts i (omega (arith, count-is (h .shape) (r .shape), layers-few r)))))
+      let inside : i < layerCount (h .shape) = omega (arith, count-is (h .shape) (r .shape)) in
+      rw (getD-take (layerCount (h .shape)) (h .planes) i 0 inside) (r .counts i (omega (arith, layers-few r))))
 
   planes-read : (l rest : List ℕ) → l ≡ ended words ++ rest → PlanesLine (h .shape) l counts
   planes-read l rest e =
       rw (e)
       (record {
-        inside = rw (seam-end words rest words-free) (ltb-true _ _ (seam-inside words rest words-free));
-        key = rw (seam-end words rest words-free, seam-front words rest words-free) (starts-append (ascii "planes=") (listText counts));
-        counts-are = rw (seam-end words rest words-free, seam-front words rest words-free, drop-append-seam (ascii "planes=") (listText counts)) counts-read;
+        inside = end-inside (ended words ++ rest) (seam-inside words rest words-free);
+        key = rw (seam-end words rest words-free, seam-front words rest words-free) (starts-append (ascii "planes=") (joined counts));
+        counts-are = rw (seam-end words rest words-free, seam-front words rest words-free, drop-append-seam (ascii "planes=") (joined counts)) counts-read;
       })
 
   -- ---- all lines

@@ -9,11 +9,12 @@ use denote.Enum.Declared.{tagOf}
 use types.Run.{OneOf, miss}
 use lib.Dec.{ltb}
 use lib.ListN.{length, drop}
-use Rattle.layers.specs.declared.Shape.{Shape}
-use Rattle.layers.specs.declared.Curve.{Curve}
-use Rattle.layers.specs.Limits.{pointsMost, levelsMost, stepMost}
-use Rattle.layers.specs.Sheet.{sheetOf}
+use Rattle.sheet.specs.declared.Shape.{Shape}
+use Rattle.sheet.specs.declared.Curve.{Curve}
+use Rattle.sheet.specs.Limits.{pointsMost, levelsMost, layersMost, stepMost}
+use Rattle.sheet.specs.Sheet.{sheetOf}
 use Rattle.integers.proofs.Bools.{choice}
+use Rattle.text.specs.Text.{padded}
 use Rattle.text.specs.Line.{newline, before, lineAt}
 use Rattle.header.specs.declared.Header.{Header}
 use Rattle.header.specs.declared.Opened.{Opened}
@@ -21,7 +22,7 @@ use Rattle.header.specs.declared.Refusal.{Refusal}
 use Rattle.header.specs.declared.Refusal.the-variants as R
 use Rattle.header.specs.Refusals.{refusal, detailsOf}
 use Rattle.header.specs.Header.{cellBytes, ascii}
-use Rattle.header.specs.Opening.{Opening, no, told, right, curveLine, curveOf, padded, openingCells, openingPlanes, openingStep, openingCurve, openingLevels, openingCols, opening}
+use Rattle.header.specs.Opening.{Opening, no, told, right, curveLine, curveOf, openingCells, openingPlanes, openingStep, openingCurve, openingLevels, openingCols, opening}
 use Rattle.header.proofs.Turns.{turn, turn-planes}
 use Rattle.header.proofs.HeaderLines.{headed, Accepts, accepting}
 use Rattle.header.proofs.Opens.{opened-right}
@@ -42,7 +43,7 @@ module _ (bs : List ℕ) where
 
   planes-answer : (sh : Shape) (curve : Curve) (step at : ℕ) → Answer (openingPlanes bs sh curve step at)
   unfolding openingPlanes
-  planes-answer sh curve step at = turn-planes Answer sh (drop at bs) (λ planes n. openingCells bs (headed sh curve step planes) (at + n)) cut (wrong 6 (omega arith) (omega arith)) (λ counts _. cells-answer (headed sh curve step (padded counts)) (at + (before newline (drop at bs) + 1)))
+  planes-answer sh curve step at = turn-planes Answer sh (drop at bs) (λ planes n. openingCells bs (headed sh curve step planes) (at + n)) cut (wrong 6 (omega arith) (omega arith)) (λ counts _. cells-answer (headed sh curve step (padded layersMost counts)) (at + (before newline (drop at bs) + 1)))
 
   step-answer : (sh : Shape) (curve : Curve) (at : ℕ) → Answer (openingStep bs sh curve at)
   unfolding openingStep

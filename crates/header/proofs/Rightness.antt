@@ -1,24 +1,27 @@
 -- What `right` says of a header, as facts on naturals: its tests one by one, both ways.
-use mathlib.Core.Bool.{Bool, true, false, cond, not, _&&_}
+use mathlib.Core.Bool.{Bool, true, not, _&&_}
 use mathlib.Core.List.{List}
-use mathlib.Core.Path.{_≡_, refl}
+use mathlib.Core.Path.{_≡_}
 use Prim.Native.Nat.{ℕ, _<_, _≤_}
 use native.Mathlib.Decide.{decLt}
 use native.Mathlib.Omega.{arith}
-use borrow.Author.Tests.{leb-true, le-leb, eqb-true, eq-eqb, ne-eqb, lt-ltb, le-ltb}
+use borrow.Author.Tests.{leb-true, le-leb, eqb-true, eqb-false, eq-eqb, ne-eqb, ltb-true, ltb-false, lt-ltb, le-ltb}
 use lib.Dec.{ltb, leb, eqb}
 use lib.ListN.{length, getD, List·getD-eq-default}
-use Rattle.layers.specs.declared.Shape.{Shape}
-use Rattle.layers.specs.Limits.{layersMost, stepMost}
-use Rattle.layers.specs.Sheet.{accepted, layers, layerSize}
-use Rattle.layers.specs.Calls.{sizing}
-use Rattle.layers.proofs.Accepting as A
-use Rattle.layers.proofs.Accepting.{accepted-yes}
+use Rattle.sheet.specs.declared.Shape.{Shape}
+use Rattle.sheet.specs.Limits.{layersMost, stepMost}
+use Rattle.sheet.specs.Sheet.{accepted, layers, layerSize}
+use Rattle.integers.specs.Floor.{ceilDiv}
+use Rattle.sheet.specs.Lists.{tabulate}
+use Rattle.sheet.proofs.Accepting as A
+use Rattle.sheet.proofs.Accepting.{accepted-yes}
+use Rattle.sheet.proofs.Lists.{tabulate-same}
 use Rattle.integers.proofs.Bools.{and-left, and-right, and-both, by, choice}
 use Rattle.header.specs.declared.Header.{Header}
-use Rattle.header.specs.Header.{placesMost, planesOf, cellsOf}
+use Rattle.header.specs.Header.{placesMost, planesOf, planeCells, cellsAt, spansOf, cellsOf}
 use Rattle.header.specs.Plan.{firstOver}
-use Rattle.header.specs.Opening.{right, planesMost}
+use Rattle.header.specs.Opening.{right, planesMost, mostBy, limitsBy}
+use Rattle.header.proofs.Cells.{cells-there, cells-past, span-listed}
 use Rattle.header.proofs.Over.{none-over, over-none}
 
 -- ---- the most planes of a layer
@@ -39,14 +42,21 @@ module _ (sh : Shape) (k : ℕ) where
   unfolding planesMost
   most-some h n = rw (lt-ltb k (layers sh) h, ne-eqb (layerSize sh k) 0 n)
 
-  -- by the layer's size, which is 0 where the layer is not there
-  pub most-sizing : accepted sh ≡ true → planesMost sh k ≡ cond (eqb (sizing sh k) 0) 0 placesMost
-  unfolding planesMost sizing
-  most-sizing ok = by (ltb k (layers sh)) (λ t. rw (ok, t) (turned (eqb (layerSize sh k) 0))) (λ t. rw (ok, t))
-    where
-      turned : (t : Bool) → cond (not t) placesMost 0 ≡ cond t 0 placesMost
-      turned true = refl
-      turned false = refl
+  -- by the cells of a plane, which has none where the layer is empty or not there
+  pub most-by : accepted sh ≡ true → planesMost sh k ≡ mostBy (cellsAt sh k)
+  unfolding planesMost mostBy
+  most-by ok =
+      by (ltb k (layers sh))
+      (λ t.
+      let there = cells-there sh ok k (ltb-true k (layers sh) t) in
+      by (eqb (layerSize sh k) 0)
+      (λ e. let z : cellsAt sh k ≡ 0 = unfold planeCells ceilDiv in (omega (arith, there, eqb-true (layerSize sh k) 0 e)) in rw (t, e, z))
+      (λ n. rw (t, n, ne-eqb (cellsAt sh k) 0 (λ z. eqb-false (layerSize sh k) 0 n (unfold planeCells ceilDiv in (omega (arith, there)))))))
+      (λ t. rw (t, cells-past sh ok k (ltb-false k (layers sh) t)))
+
+pub limits-by : (sh : Shape) → accepted sh ≡ true → limitsBy (spansOf sh) ≡ tabulate layersMost (planesMost sh)
+unfolding limitsBy
+limits-by sh ok = tabulate-same layersMost _ _ (λ k l. rw (span-listed sh k l, most-by sh k ok))
 
 -- ---- a right header
 pub record Right (h : Header) : Type 0 where
@@ -94,6 +104,9 @@ module _ {h : Header} (r : Right h) where
 
   pub counts-few : (k : ℕ) → k < layersMost → planesOf h k ≤ placesMost
   counts-few k l = omega (arith, r .counts k l, most-le (h .shape) k)
+
+  pub few-planes : (k : ℕ) → k < layers (h .shape) → planesOf h k ≤ placesMost
+  few-planes k l = counts-few k (omega (arith, layers-few))
 
   -- "0 past the last"
   pub counts-past : (k : ℕ) → layers (h .shape) ≤ k → k < layersMost → planesOf h k ≡ 0

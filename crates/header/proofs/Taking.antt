@@ -7,10 +7,10 @@ use native.Mathlib.Nat.{le-refl, mul-le-mul, mul-div-le}
 use native.Mathlib.Omega.{arith}
 use lib.ListN.{length, take, drop, length-drop}
 use borrow.Author.Tests.{lt-ltb, le-ltb}
-use Rattle.layers.specs.declared.Curve.the-variants.{Linear, Cubic}
+use Rattle.sheet.specs.declared.Curve.the-variants.{Linear, Cubic}
 use Rattle.text.specs.declared.Line.{Line}
 use Rattle.text.specs.declared.Line.the-variants.{Short, Wrong, Number}
-use Rattle.text.specs.Line.{newline, before, starts, lineAt}
+use Rattle.text.specs.Line.{newline, before, starts, hasEnd, lineAt}
 use Rattle.text.proofs.Lines.{Written, written}
 use Rattle.header.specs.Header.{ascii, curveText}
 use Rattle.header.specs.Opening.{same, curveLine}
@@ -43,21 +43,21 @@ same-as key l e p = rw (← p) (sym e)
 
 module _ (l : List ℕ) (m : ℕ) (is : m ≡ before newline l) where
   pub curve-short : length l ≤ m → curveLine l ≡ Short
-  unfolding curveLine
+  unfolding curveLine hasEnd
   curve-short h = rw (← is) (simp (le-ltb m (length l) h))
 
   module _ (h : m < length l) where
     pub curve-linear : same (ascii "curve=" ++ curveText Linear) (take m l) ≡ true → curveLine l ≡ Number 0 (m + 1)
-    unfolding curveLine
+    unfolding curveLine hasEnd
     curve-linear e = rw (← is) (simp (lt-ltb m (length l) h, e))
 
     module _ (d : same (ascii "curve=" ++ curveText Linear) (take m l) ≡ false) where
       pub curve-cubic : same (ascii "curve=" ++ curveText Cubic) (take m l) ≡ true → curveLine l ≡ Number 1 (m + 1)
-      unfolding curveLine
+      unfolding curveLine hasEnd
       curve-cubic e = rw (← is) (simp (lt-ltb m (length l) h, d, e))
 
       pub curve-wrong : same (ascii "curve=" ++ curveText Cubic) (take m l) ≡ false → curveLine l ≡ Wrong
-      unfolding curveLine
+      unfolding curveLine hasEnd
       curve-wrong e = rw (← is) (simp (lt-ltb m (length l) h, d, e))
 
 -- so many columns that the points are at most m

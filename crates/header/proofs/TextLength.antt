@@ -6,20 +6,21 @@ use native.Mathlib.Nat.{mul-le-mul-left}
 use native.Mathlib.Omega.{arith}
 use lib.ListN.{length, take, length-append, length-take}
 use lib.Seq.{getD-take}
-use Rattle.layers.specs.declared.Curve.{Curve}
-use Rattle.layers.specs.declared.Curve.the-variants.{Linear, Cubic}
-use Rattle.layers.specs.Limits.{layersMost}
-use Rattle.layers.specs.Sheet.{layerCount}
-use Rattle.layers.proofs.Accepting.{Sheet, accepted-yes}
-use Rattle.layers.proofs.Fits.{rows-small, cols-small}
+use Rattle.sheet.specs.declared.Curve.{Curve}
+use Rattle.sheet.specs.declared.Curve.the-variants.{Linear, Cubic}
+use Rattle.sheet.specs.Limits.{layersMost}
+use Rattle.sheet.specs.Sheet.{layerCount}
+use Rattle.sheet.proofs.Accepting.{Sheet, accepted-yes}
+use Rattle.sheet.proofs.Fits.{rows-small, cols-small}
 use Rattle.text.specs.Decimal.{digits, charactersMost}
+use Rattle.text.specs.Joined.{joined}
 use Rattle.text.proofs.Digits.{length-le, length-most}
 use Rattle.text.proofs.Lines.{line-length}
+use Rattle.text.proofs.Joins.{joined-length}
 use Rattle.header.specs.declared.Header.{Header}
-use Rattle.header.specs.Header.{asciiFrom, cellBytes, curveText, listText, planesOf, textMost, headerText}
+use Rattle.header.specs.Header.{asciiFrom, cellBytes, curveText, planesOf, textMost, headerText}
 use Rattle.header.proofs.Rightness.{Right, counts-few}
-use Rattle.header.proofs.ListText.{list-length}
-use Rattle.layers.proofs.LayerCounts.{count-few}
+use Rattle.sheet.proofs.LayerCounts.{count-few}
 use Rattle.header.proofs.Total.{right-cells}
 
 curve-length : (c : Curve) → length (curveText c) ≤ 6
@@ -33,19 +34,19 @@ module _ (h : Header) where
 
   pub text-length :
       length (headerText h) ≡
-      48 + length (digits (h .shape .rows)) + length (digits (h .shape .cols)) + length (digits (h .shape .levels)) + length (curveText (h .curve)) + length (digits (h .step)) + length (listText counts) + length (digits (h .cells))
+      48 + length (digits (h .shape .rows)) + length (digits (h .shape .cols)) + length (digits (h .shape .levels)) + length (curveText (h .curve)) + length (digits (h .step)) + length (joined counts) + length (digits (h .cells))
   unfolding headerText asciiFrom
   text-length = simp (length-append, line-length) (omega arith)
 
   counts-length : length counts ≤ layersMost
   counts-length = omega (arith, count-few (h .shape), length-take (layerCount (h .shape)) (h .planes))
 
-  listed-most : (d : ℕ) → ((k : ℕ) → k < layersMost → length (digits (planesOf h k)) ≤ d) → length (listText counts) ≤ (d + 1) * layersMost
+  listed-most : (d : ℕ) → ((k : ℕ) → k < layersMost → length (digits (planesOf h k)) ≤ d) → length (joined counts) ≤ (d + 1) * layersMost
   listed-most d few =
       omega (
         arith,
         mul-le-mul-left (d + 1) counts-length,
-        list-length d counts
+        joined-length d counts
             (λ i l.
             let inside : i < layerCount (h .shape) = omega (arith, length-take (layerCount (h .shape)) (h .planes)) in
             rw (getD-take (layerCount (h .shape)) (h .planes) i 0 inside) (few i (omega (arith, counts-length)))),

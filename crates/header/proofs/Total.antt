@@ -3,23 +3,25 @@ use mathlib.Core.Bool.{true, _&&_}
 use mathlib.Core.List.{List}
 use mathlib.Core.Path.{_≡_}
 use Prim.Native.Nat.{ℕ, zero, suc, _+_, _-_, _*_, _<_, _≤_}
-use native.Mathlib.Nat.{le-refl, le-trans, mul-le-mul-left}
+use native.Mathlib.Nat.{le-refl, mul-le-mul-left}
+use native.Mathlib.Decide.{decLt}
 use native.Mathlib.Omega.{arith}
 use lib.Dec.{ltb}
 use lib.ListN.{getD}
 use Rattle.integers.specs.Floor.{ceilDiv}
-use Rattle.layers.specs.declared.Shape.{Shape}
-use Rattle.layers.specs.Lists.{total}
-use Rattle.layers.specs.Sheet.{accepted, layers, layerSize}
-use Rattle.layers.proofs.Accepting as A
-use Rattle.layers.proofs.Accepting.{accepted-yes}
+use Rattle.sheet.specs.declared.Shape.{Shape}
+use Rattle.sheet.specs.Limits.{layersMost}
+use Rattle.sheet.specs.Lists.{total}
+use Rattle.sheet.specs.Sheet.{accepted, layers, layerSize}
+use Rattle.sheet.proofs.Accepting as A
+use Rattle.sheet.proofs.Accepting.{accepted-yes}
 use Rattle.integers.proofs.Bools.{choice, and-left}
-use Rattle.layers.proofs.Places.{size-most}
-use Rattle.layers.proofs.Size.{layers-fill}
+use Rattle.sheet.proofs.Places.{size-most}
+use Rattle.sheet.proofs.Size.{layers-fill}
 use Rattle.header.specs.declared.Header.{Header}
-use Rattle.header.specs.Header.{placesMost, cellPoints, planeCellsMost, placeCellsMost, cellsMost, planeCells, cellsAt, cellsOf}
+use Rattle.header.specs.Header.{placesMost, cellPoints, planeCellsMost, placeCellsMost, cellsMost, planeCells, cellsAt, spansOf, cellsOf}
+use Rattle.header.proofs.Cells.{span-listed, span-past}
 use Rattle.header.proofs.Rightness.{Right, counts-few, layers-few}
-use Rattle.header.proofs.Totals.{total-rises}
 
 -- a plane wastes less than a cell
 pub plane-waste : (sh : Shape) (k : ℕ) → cellPoints * planeCells sh k ≤ layerSize sh k + (cellPoints - 1)
@@ -54,10 +56,6 @@ module _ (sh : Shape) (ok : accepted sh ≡ true) where
     unfolding cellsOf
     cells-most = omega (arith, layers-most, products (planeCells sh) (λ k. getD planes k 0) placesMost (layers sh) few)
 
-    -- and so the sum of the first layers
-    pub part-most : (n : ℕ) → n ≤ layers sh → total (λ k. planeCells sh k * getD planes k 0) n ≤ cellsMost
-    part-most n h = le-trans (total-rises _ n (layers sh) h) (unfold cellsOf in cells-most)
-
 pub right-cells : {h : Header} → Right h → h .cells ≤ cellsMost
 right-cells {h} r = omega (arith, r .cells, cells-most (h .shape) (r .shape) (h .planes) (λ k l. counts-few r k (omega (arith, layers-few r))))
 
@@ -68,3 +66,11 @@ at-most sh k =
     choice (λ (n : ℕ). n ≤ planeCellsMost) (accepted sh && ltb k (layers sh))
     (λ t. plane-most sh (and-left (accepted sh) (ltb k (layers sh)) t) k)
     (λ t. omega arith)
+
+-- so of every layer, at every place
+pub span-most : (sh : Shape) (k : ℕ) → getD (spansOf sh) k 0 ≤ planeCellsMost
+span-most sh k =
+    elim (decLt k layersMost) [
+      | yes l ↦ rw (span-listed sh k l) (at-most sh k)
+      | no l ↦ rw (span-past sh k (omega arith)) (omega arith)
+    ]

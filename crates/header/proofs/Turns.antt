@@ -4,23 +4,24 @@ use mathlib.Core.List.{List}
 use mathlib.Core.Option.{Option, none, some}
 use mathlib.Core.Path.{_≡_, refl}
 use Prim.Native.Nat.{ℕ, _+_, _<_}
-use borrow.Author.Tests.{ltb-true}
-use lib.Dec.{ltb}
 use lib.ListN.{length, take, drop}
-use Rattle.layers.specs.declared.Shape.{Shape}
-use Rattle.layers.specs.Sheet.{layers}
+use Rattle.sheet.specs.declared.Shape.{Shape}
+use Rattle.sheet.specs.Limits.{layersMost}
 use Rattle.text.specs.declared.Line.{Line}
 use Rattle.text.specs.declared.Line.the-variants as L
-use Rattle.text.specs.Line.{newline, before, starts}
+use Rattle.text.specs.Text.{padded}
+use Rattle.text.specs.Line.{newline, before, starts, hasEnd}
+use Rattle.text.specs.Joined.{numbersIn}
+use Rattle.text.proofs.Search.{end-inside}
 use Rattle.header.specs.Refusals.{refusal}
 use Rattle.header.specs.Header.{ascii}
-use Rattle.header.specs.Opening.{Opening, no, taking, countsIn, padded, counted, takingPlanes}
+use Rattle.header.specs.Opening.{Opening, no, taking, limits, counted, takingPlanes}
 
 -- line 6 as it is read: its end, its key, and its counts
 pub record PlanesLine (sh : Shape) (l counts : List ℕ) : Type 0 where
   pub inside : before newline l < length l
   pub key : starts (ascii "planes=") (take (before newline l) l) ≡ true
-  pub counts-are : countsIn sh (layers sh) 0 (drop (length (ascii "planes=")) (take (before newline l) l)) ≡ some counts
+  pub counts-are : numbersIn (limits sh) (drop (length (ascii "planes=")) (take (before newline l) l)) ≡ some counts
 
 module _ (P : Opening → Type 0) where
   pub turn : (n : ℕ) (line : Line) (go : ℕ → ℕ → Opening) → P (no (refusal 5 0 0)) → P (no (refusal 6 n 0)) → ((v len : ℕ) → line ≡ L.Number v len → P (go v len)) → P (taking n line go)
@@ -29,14 +30,14 @@ module _ (P : Opening → Type 0) where
   turn n (L.Number v len) go short wrong rest = rest v len refl
 
   pub turn-planes : (sh : Shape) (l : List ℕ) (go : List ℕ → ℕ → Opening) → P (no (refusal 5 0 0)) → P (no (refusal 6 6 0))
-      → ((counts : List ℕ) → PlanesLine sh l counts → P (go (padded counts) (before newline l + 1))) → P (takingPlanes sh l go)
+      → ((counts : List ℕ) → PlanesLine sh l counts → P (go (padded layersMost counts) (before newline l + 1))) → P (takingPlanes sh l go)
   turn-planes sh l go short wrong rest =
-      by (ltb (before newline l) (length l)) (starts (ascii "planes=") (take (before newline l) l)) (countsIn sh (layers sh) 0 (drop (length (ascii "planes=")) (take (before newline l) l))) refl refl refl
+      by (hasEnd l) (starts (ascii "planes=") (take (before newline l) l)) (numbersIn (limits sh) (drop (length (ascii "planes=")) (take (before newline l) l))) refl refl refl
     where
-      by : (t u : Bool) (o : Option (List ℕ)) → ltb (before newline l) (length l) ≡ t → starts (ascii "planes=") (take (before newline l) l) ≡ u
-          → countsIn sh (layers sh) 0 (drop (length (ascii "planes=")) (take (before newline l) l)) ≡ o
+      by : (t u : Bool) (o : Option (List ℕ)) → hasEnd l ≡ t → starts (ascii "planes=") (take (before newline l) l) ≡ u
+          → numbersIn (limits sh) (drop (length (ascii "planes=")) (take (before newline l) l)) ≡ o
           → P (cond t (cond u (counted o (λ planes. go planes (before newline l + 1))) (no (refusal 6 6 0))) (no (refusal 5 0 0)))
       by false u o e f g = short
       by true false o e f g = wrong
       by true true none e f g = wrong
-      by true true (some counts) e f g = rest counts (record { inside = ltb-true _ _ e; key = f; counts-are = g })
+      by true true (some counts) e f g = rest counts (record { inside = end-inside l e; key = f; counts-are = g })

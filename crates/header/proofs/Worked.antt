@@ -2,9 +2,9 @@
 use mathlib.Core.List.{_∷_}
 use Prim.Native.Nat.{_-_}
 use lib.ListN.{replicate}
-use Rattle.layers.specs.declared.Curve.the-variants.{Linear}
-use Rattle.layers.specs.Limits.{layersMost}
-use Rattle.layers.specs.Sheet.{sheetOf}
+use Rattle.sheet.specs.declared.Curve.the-variants.{Linear}
+use Rattle.sheet.specs.Limits.{layersMost}
+use Rattle.sheet.specs.Sheet.{sheetOf}
 use Rattle.header.specs.declared.Header.{Header}
 
 -- "1 by 5, L 1, linear, e 1 .. planes=5,1,0, cells=6"

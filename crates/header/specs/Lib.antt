@@ -2,5 +2,3 @@ pub mod Refusals
 pub mod Header
 pub mod Plan
 pub mod Opening
-pub mod CardOrder
-pub mod Figure

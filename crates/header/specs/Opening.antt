@@ -1,27 +1,26 @@
 -- Opening a card (document 01, "When the box says no"): "Lines are taken in turn, 5 before 6 in each."
-use mathlib.Core.Bool.{Bool, true, false, cond, not, _&&_}
-use mathlib.Core.List.{List, [], _∷_, _++_}
+use mathlib.Core.Bool.{Bool, cond, not, _&&_}
+use mathlib.Core.List.{List, _++_}
 use mathlib.Core.Option.{Option, none, some}
-use Prim.Native.Nat.{ℕ, zero, suc, _+_, _*_, _-_, _/_}
+use Prim.Native.Nat.{ℕ, _+_, _*_, _/_}
 use lib.Dec.{ltb, leb, eqb}
 use lib.ListN.{length, getD, take, drop, replicate}
-use Rattle.layers.specs.declared.Shape.{Shape}
-use Rattle.layers.specs.declared.Curve.{Curve}
-use Rattle.layers.specs.declared.Curve.the-variants.{Linear, Cubic}
-use Rattle.layers.specs.Limits.{pointsMost, levelsMost, layersMost, stepMost}
-use Rattle.layers.specs.Sheet.{accepted, sheetOf, layers, layerSize}
-use Rattle.text.specs.declared.Number.{Number}
-use Rattle.text.specs.declared.Number.the-variants as N
+use Rattle.sheet.specs.declared.Shape.{Shape}
+use Rattle.sheet.specs.declared.Curve.{Curve}
+use Rattle.sheet.specs.declared.Curve.the-variants.{Linear, Cubic}
+use Rattle.sheet.specs.Limits.{pointsMost, levelsMost, layersMost, stepMost}
+use Rattle.sheet.specs.Lists.{tabulate}
+use Rattle.sheet.specs.Sheet.{accepted, sheetOf, layers, layerSize}
 use Rattle.text.specs.declared.Line.{Line}
 use Rattle.text.specs.declared.Line.the-variants as L
-use Rattle.text.specs.Decimal.{parsed}
-use Rattle.text.specs.Line.{newline, before, starts, lineAt}
+use Rattle.text.specs.Text.{padded}
+use Rattle.text.specs.Line.{newline, before, starts, hasEnd, lineAt}
+use Rattle.text.specs.Joined.{numbersIn}
 use Rattle.header.specs.declared.Header.{Header}
 use Rattle.header.specs.declared.Details.{Details}
-use Rattle.header.specs.declared.Counts.{Counts}
 use Rattle.header.specs.declared.Opened.{Opened}
 use Rattle.header.specs.Refusals.{refusal, detailsOf}
-use Rattle.header.specs.Header.{placesMost, cellBytes, ascii, comma, curveText, planesOf, cellsOf}
+use Rattle.header.specs.Header.{placesMost, cellBytes, ascii, curveText, planesOf, cellsOf}
 use Rattle.header.specs.Plan.{firstOver}
 
 -- what opening answers: a refusal, or the header and how many bytes it has. Beside a refusal the header is blank and the length 0
@@ -60,7 +59,7 @@ same key l = starts key l && eqb (length key) (length l)
 -- line 4: 0 for linear and 1 for cubic
 unfoldable pub curveLine : List ℕ → Line
 curveLine l =
-    cond (ltb (before newline l) (length l))
+    cond (hasEnd l)
     (cond (same (ascii "curve=" ++ curveText Linear) (take (before newline l) l)) (L.Number 0 (before newline l + 1))
     (cond (same (ascii "curve=" ++ curveText Cubic) (take (before newline l) l)) (L.Number 1 (before newline l + 1))
     L.Wrong))
@@ -69,45 +68,32 @@ curveLine l =
 abbrev pub curveOf : ℕ → Curve
 curveOf v = cond (eqb v 0) Linear Cubic
 
--- line 6: "a count over 23, a wrong number of counts or a count above 0 for an empty layer". The most planes that layer k may have; none past the last layer
+-- line 6: "planes (the P_k, commas between)"; wrong are "a count over 23, a wrong number of counts or a count above 0 for an empty layer"
+-- the most planes that layer k may have; none past the last layer
 unfoldable pub planesMost : Shape → ℕ → ℕ
 planesMost sh k = cond (ltb k (layers sh) && not (eqb (layerSize sh k) 0)) placesMost 0
 
-abbrev pub consNumber : Number → Option (List ℕ) → Option (List ℕ)
-consNumber N.Wrong rest = none
-consNumber (N.Value v) none = none
-consNumber (N.Value v) (some vs) = some (v ∷ vs)
+-- so there is one count for each layer, and each has its limit
+unfoldable pub limits : Shape → List ℕ
+limits sh = tabulate (layers sh) (planesMost sh)
 
--- the counts of f layers from layer k on that a text spells, commas between
-unfoldable pub countsIn : Shape → ℕ → ℕ → List ℕ → Option (List ℕ)
-countsIn sh zero k text = none
-countsIn sh (suc zero) k text = consNumber (parsed 0 (planesMost sh k) text) (some [])
-countsIn sh (suc (suc f)) k text =
-    cond (ltb (before comma text) (length text))
-    (consNumber (parsed 0 (planesMost sh k) (take (before comma text) text)) (countsIn sh (suc f) (suc k) (drop (before comma text + 1) text)))
-    none
+-- the same by the cells that one plane of each layer spans, for each layer there may be
+unfoldable pub mostBy : ℕ → ℕ
+mostBy span = cond (eqb span 0) 0 placesMost
 
--- one count for each layer there may be, 0 past the last
-abbrev pub padded : List ℕ → List ℕ
-padded counts = counts ++ replicate (layersMost - length counts) 0
+unfoldable pub limitsBy : List ℕ → List ℕ
+limitsBy spans = tabulate layersMost (λ k. mostBy (getD spans k 0))
 
--- the same as the code keeps them: 0 everywhere where the text is wrong
-abbrev pub wrongCounts : Counts
-wrongCounts = record { right = false; planes = replicate layersMost 0 }
-
-abbrev pub countsOf : Option (List ℕ) → Counts
-countsOf none = wrongCounts
-countsOf (some counts) = record { right = true; planes = padded counts }
-
+-- a header keeps a count for each layer there may be, 0 past the last
 abbrev pub counted : Option (List ℕ) → (List ℕ → Opening) → Opening
 counted none go = no (refusal 6 6 0)
-counted (some counts) go = go (padded counts)
+counted (some counts) go = go (padded layersMost counts)
 
 abbrev pub takingPlanes : Shape → List ℕ → (List ℕ → ℕ → Opening) → Opening
 takingPlanes sh l go =
-    cond (ltb (before newline l) (length l))
+    cond (hasEnd l)
     (cond (starts (ascii "planes=") (take (before newline l) l))
-    (counted (countsIn sh (layers sh) 0 (drop (length (ascii "planes=")) (take (before newline l) l))) (λ planes. go planes (before newline l + 1)))
+    (counted (numbersIn (limits sh) (drop (length (ascii "planes=")) (take (before newline l) l))) (λ planes. go planes (before newline l + 1)))
     (no (refusal 6 6 0)))
     (no (refusal 5 0 0))
 

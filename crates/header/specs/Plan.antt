@@ -4,8 +4,9 @@ use Prim.Native.Nat.{ℕ, _+_, _^_}
 use lib.Dec.{ltb}
 use lib.ListN.{getD, set, replicate}
 use Rattle.digits.specs.Digits.{firstFrom}
-use Rattle.layers.specs.Limits.{layersMost}
 use Rattle.header.specs.declared.Plan.{Plan}
+-- handed on to crates that stand on this one and not on `sheet`
+pub use Rattle.sheet.specs.Limits.{layersMost}
 
 -- the plan of no planes
 abbrev pub noPlan : Plan

@@ -1,29 +1,24 @@
-// A card's header: its text, opening any bytes, the planes that are whole in them, and the figure of a plan.
+// A card's header: its text, opening any bytes, and the planes that it names; refusals and plans.
 ghost use mathlib.Core.Path.{_≡_};
 ghost use Rattle.header.specs.Refusals as R;
+ghost use Rattle.header.specs.Header as Hd;
 ghost use Rattle.header.specs.Plan as P;
 
-mod bound;
 mod opening;
 mod planes;
 mod printing;
 
-pub use bound::error_bound;
-pub use bound::figure;
-use layers::Curve;
-use layers::MOST_LAYERS;
-use layers::MOST_POINTS;
-use layers::Shape;
 pub use opening::open;
-pub use planes::cells_before;
 pub use planes::first_over;
 pub use planes::is_right;
 pub use planes::plane_cells;
-pub use planes::span_at;
-pub use planes::spans_of;
+use planes::spans_of;
 pub use planes::total_cells;
-pub use planes::whole_planes;
 pub use printing::header_text;
+use sheet::Curve;
+pub use sheet::MOST_LAYERS;
+use sheet::MOST_POINTS;
+use sheet::Shape;
 
 // Document 01's sizes of a card: digits of a coefficient, the bytes of a cell and the points that it holds.
 pub const MOST_PLACES: u64 = 23;
@@ -83,22 +78,10 @@ pub struct Opened {
     pub length: usize,
 }
 
-// A figure; 0 beside a refusal.
-pub struct Bounded {
-    pub refusal: Refusal,
-    pub figure: u64,
-}
-
 // The text of a header: the first `length` of the bytes; zeros follow.
 pub struct HeaderText {
     pub bytes: [u8; MOST_TEXT],
     pub length: usize,
-}
-
-// The counts of a line of planes, if it is right.
-pub struct Counts {
-    pub right: bool,
-    pub planes: [u64; MOST_LAYERS],
 }
 
 pub fn details_of(refusal: Refusal) -> Details
@@ -183,5 +166,14 @@ impl Plan {
         }
         next.planes[layer] = n + 1;
         next
+    }
+}
+
+impl Header {
+    // The cells that one plane of each layer spans.
+    pub fn spans(self) -> [u64; MOST_LAYERS]
+        ensures { λ r. ⌜ r ≡ Hd.spansOf (self .shape) ⌝ }
+    {
+        spans_of(self.shape)
     }
 }

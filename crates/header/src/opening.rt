@@ -3,25 +3,24 @@ ghost use mathlib.Core.Path.{_≡_};
 ghost use mathlib.Core.Bool.{true};
 ghost use Prim.Native.Nat.{_*_, _^_, _≤_};
 ghost use lib.ListN.{drop};
-ghost use Rattle.layers.specs.Limits.{pointsMost};
-ghost use Rattle.layers.specs.Sheet as S;
+ghost use Rattle.sheet.specs.Limits.{pointsMost};
+ghost use Rattle.sheet.specs.Sheet as S;
 ghost use Rattle.header.specs.Refusals as R;
 ghost use Rattle.header.specs.Opening as O;
 use crate::CELL_BYTES;
-use crate::Counts;
 use crate::Header;
 use crate::Opened;
 use crate::Refusal;
 use crate::planes::cells_of;
-use crate::planes::planes_most;
-use layers::Curve;
-use layers::MOST_LAYERS;
-use layers::MOST_LEVELS;
-use layers::MOST_POINTS;
-use layers::MOST_STEP;
-use layers::Shape;
+use crate::planes::limits;
+use crate::planes::spans_of;
+use sheet::Curve;
+use sheet::MOST_LAYERS;
+use sheet::MOST_LEVELS;
+use sheet::MOST_POINTS;
+use sheet::MOST_STEP;
+use sheet::Shape;
 use text::Line;
-use text::Number;
 
 fn refused(refusal: Refusal) -> Opened
     ensures { λ r. ⌜ O.told r ≡ O.no (R.detailsOf refusal) ⌝ }
@@ -67,44 +66,6 @@ fn open_cells(bytes: &[u8], header: Header, at: usize) -> Opened
     }
 }
 
-fn wrong_counts() -> Counts
-    ensures { λ r. ⌜ r ≡ O.wrongCounts ⌝ }
-{
-    Counts {
-        right: false,
-        planes: [0; MOST_LAYERS],
-    }
-}
-
-// The counts that a text spells, one for each layer, commas between.
-fn read_counts(text: &[u8], shape: Shape) -> Counts
-    requires { ⌜ S.accepted shape ≡ true ⌝ }
-    ensures { λ r. ⌜ r ≡ O.countsOf (O.countsIn shape (S.layers shape) 0 (now (text .entry))) ⌝ }
-{
-    let last = layers::layer_count(shape) - 1;
-    let mut planes = [0u64; MOST_LAYERS];
-    let mut at: usize = 0;
-    for k in 0..last {
-        let end = text::find(text, at, b',');
-        if text.len() <= end {
-            return wrong_counts();
-        }
-        let Number::Value(n) = text::parse(&text[at..end], 0, planes_most(shape, k)) else {
-            return wrong_counts();
-        };
-        planes[k] = n;
-        at = end + 1;
-    }
-    let Number::Value(n) = text::parse(&text[at..], 0, planes_most(shape, last)) else {
-        return wrong_counts();
-    };
-    planes[last] = n;
-    Counts {
-        right: true,
-        planes,
-    }
-}
-
 // Where the counts stand in line 6: behind "planes=".
 const COUNTS_AT: usize = 7;
 
@@ -121,12 +82,13 @@ fn open_planes(bytes: &[u8], shape: Shape, curve: Curve, step: u64, at: usize) -
     if !text::starts_with(line, b"planes=") {
         return refused(Refusal::BadLine(6));
     }
-    let counts = read_counts(&line[COUNTS_AT..], shape);
-    if !counts.right {
+    let spans = spans_of(shape);
+    let mut planes = limits(spans);
+    let layers = sheet::layer_count(shape);
+    if !text::read_joined(&line[COUNTS_AT..], &mut planes[..layers]) {
         return refused(Refusal::BadLine(6));
     }
-    let planes = counts.planes;
-    let cells = cells_of(shape, planes);
+    let cells = cells_of(spans, planes);
     open_cells(
         bytes,
         Header {
@@ -220,7 +182,7 @@ fn open_levels(bytes: &[u8], rows: u64, cols: u64, at: usize) -> Opened
         Line::Short => refused(Refusal::HeaderCut),
         Line::Wrong => refused(Refusal::BadLine(3)),
         Line::Number { value, length } => {
-            let shape = layers::sheet_of(rows as usize, cols as usize, value as usize);
+            let shape = sheet::sheet_of(rows as usize, cols as usize, value as usize);
             open_curve(bytes, shape, at + length)
         }
     }

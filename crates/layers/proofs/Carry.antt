@@ -11,10 +11,10 @@ use Rattle.integers.proofs.Diff.{#, lit, _⊞_, _⊖_, ⊟, _⊡_}
 use Rattle.integers.proofs.Order.{eq-by}
 use Rattle.integers.proofs.Near.{near-le, near-refl, within-near, near-within}
 use Rattle.integers.proofs.Floor.{floor-at}
-use Rattle.layers.specs.declared.Shape.{Shape}
-use Rattle.layers.specs.declared.Curve.{Curve}
-use Rattle.layers.specs.declared.Curve.the-variants.{Linear, Cubic}
-use Rattle.layers.specs.Sheet.{accepted, layers}
+use Rattle.sheet.specs.declared.Shape.{Shape}
+use Rattle.sheet.specs.declared.Curve.{Curve}
+use Rattle.sheet.specs.declared.Curve.the-variants.{Linear, Cubic}
+use Rattle.sheet.specs.Sheet.{accepted, layers}
 use Rattle.layers.specs.Prediction.{linear, cubic}
 use Rattle.layers.specs.Layering.{Carries, layering}
 use Rattle.layers.specs.Carry.{carried, carry, Between, lowCarried, highCarried}

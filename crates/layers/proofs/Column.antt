@@ -16,19 +16,20 @@ use lib.ListN.{length, replicate}
 use lib.Pow.{pow-pos}
 use lib.Seq.{ext-getD}
 use borrow.Author.Tests.{eqb-true, eq-eqb}
-use Rattle.layers.specs.declared.Shape.{Shape}
-use Rattle.layers.specs.declared.Curve.{Curve}
-use Rattle.layers.specs.declared.Direction.{Direction}
-use Rattle.layers.specs.declared.Direction.the-variants.{Anchor, Across, Down, Between}
-use Rattle.layers.specs.Sheet.{accepted, points, directions, layers, turn, member, direction, spacing, inLayer}
+use Rattle.sheet.specs.declared.Shape.{Shape}
+use Rattle.sheet.specs.declared.Curve.{Curve}
+use Rattle.sheet.specs.declared.Direction.{Direction}
+use Rattle.sheet.specs.declared.Direction.the-variants.{Anchor, Across, Down, Between}
+use Rattle.sheet.specs.Sheet.{accepted, points, directions, layers, turn, member, direction, spacing, inLayer}
 use Rattle.layers.specs.Prediction.{line, predicted, predictedAt}
 use Rattle.layers.specs.Layering.{Layering, layering, pointBy, layerBy, valuesBy, alongside, blank, reads, writes, makes, rebuilt, written, coefs}
-use Rattle.layers.specs.Loops.{laid, Samples}
+use Rattle.sheet.specs.Lines.{laid}
+use Rattle.layers.specs.Loops.{Samples}
 use Rattle.integers.proofs.Bools.{by, and-no-left, and-no-right}
-use Rattle.layers.proofs.Accepting.{accepted-yes, accepted-by, two-three}
-use Rattle.layers.proofs.Earlier.{mult, odd, even-not-odd}
-use Rattle.layers.proofs.Cover.{Turn, turn-direction, turn-spacing}
-use Rattle.layers.proofs.Lists.{length-tabulate, getD-tabulate, tabulate-same}
+use Rattle.sheet.proofs.Accepting.{accepted-yes, accepted-by, two-three}
+use Rattle.sheet.proofs.Earlier.{mult, odd, even-not-odd}
+use Rattle.sheet.proofs.Cover.{Turn, turn-direction, turn-spacing}
+use Rattle.sheet.proofs.Lists.{length-tabulate, getD-tabulate, tabulate-same}
 
 -- ---- two layerings, layer by layer
 -- a layer with no points changes nothing

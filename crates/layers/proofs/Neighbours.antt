@@ -7,21 +7,21 @@ use Prim.Native.Nat.{ℕ, _+_, _-_, _*_, _%_, _<_, _≤_}
 use native.Mathlib.Omega.{arith}
 use lib.IntN.{ℤ, pos}
 use lib.ListN.{length}
-use Rattle.layers.specs.declared.Shape.{Shape}
-use Rattle.layers.specs.declared.Curve.{Curve}
-use Rattle.layers.specs.declared.Grid.{Grid}
-use Rattle.layers.specs.declared.Direction.{Direction}
+use Rattle.sheet.specs.declared.Shape.{Shape}
+use Rattle.sheet.specs.declared.Curve.{Curve}
+use Rattle.sheet.specs.declared.Grid.{Grid}
+use Rattle.sheet.specs.declared.Direction.{Direction}
 use Rattle.layers.specs.declared.Crossing.{Crossing}
-use Rattle.layers.specs.declared.Direction.the-variants.{Anchor, Across, Down, Between}
-use Rattle.layers.specs.Limits.{pointsMost}
-use Rattle.layers.specs.Sheet.{points, place, member, direction, spacing}
+use Rattle.sheet.specs.declared.Direction.the-variants.{Anchor, Across, Down, Between}
+use Rattle.sheet.specs.Limits.{pointsMost}
+use Rattle.sheet.specs.Sheet.{points, place, member, direction, spacing}
 use Rattle.layers.specs.Prediction.{line, predicted}
 use Rattle.layers.specs.Layering.{layering, known}
 use Rattle.layers.specs.Loops.{crossingOf, crosses, AtPoint, OnLine, Below, valueMost}
-use Rattle.layers.proofs.Accepting.{Sheet, accepted-yes}
-use Rattle.layers.proofs.Fits.{place-in, on-row, on-column, on-depth, rows-small, cols-small, depth-small, spacing-some, spacing-small}
-use Rattle.layers.proofs.Earlier.{Looks}
-use Rattle.layers.proofs.Grids.{Spot, spot-of}
+use Rattle.sheet.proofs.Accepting.{Sheet, accepted-yes}
+use Rattle.sheet.proofs.Fits.{place-in, on-row, on-column, on-depth, rows-small, cols-small, depth-small, spacing-some, spacing-small}
+use Rattle.sheet.proofs.Earlier.{Looks}
+use Rattle.layers.proofs.Spots.{Spot, spot-of}
 use Rattle.layers.proofs.Rows.{grid-names}
 use Rattle.layers.proofs.SheetLaw.{across-odd, down-odd, between-odd, looks-at}
 

@@ -14,20 +14,20 @@ use Rattle.integers.specs.Floor.{ceilDiv}
 use Rattle.integers.proofs.Diff.{#, lit, _⊞_, _⊠_}
 use Rattle.integers.proofs.Order.{eq-by}
 use Rattle.integers.proofs.Near.{within-by, within-near, near-within}
-use Rattle.layers.specs.declared.Shape.{Shape}
-use Rattle.layers.specs.declared.Curve.{Curve}
-use Rattle.layers.specs.declared.Curve.the-variants.{Linear, Cubic}
-use Rattle.layers.specs.Limits.{layersMost, stepMost}
-use Rattle.layers.specs.Lists.{at}
-use Rattle.layers.specs.Sheet.{accepted, points, place, layers, has, inLayer, direction, spacing}
+use Rattle.sheet.specs.declared.Shape.{Shape}
+use Rattle.sheet.specs.declared.Curve.{Curve}
+use Rattle.sheet.specs.declared.Curve.the-variants.{Linear, Cubic}
+use Rattle.sheet.specs.Limits.{layersMost, stepMost}
+use Rattle.sheet.specs.Lists.{at}
+use Rattle.sheet.specs.Sheet.{accepted, points, place, layers, has, inLayer, direction, spacing}
 use Rattle.layers.specs.Prediction.{width, rebuiltFrom, predicted, predictedAt}
 use Rattle.layers.specs.Layering.{layering, valuesBy, blank, reads, writes, coefs}
 use Rattle.layers.specs.Carry.{carried, carry}
 use Rattle.layers.specs.Loops.{writtenMost, predictedMost, valueMost, Below, Samples}
-use Rattle.layers.proofs.Rises.{rises}
-use Rattle.layers.proofs.Accepting.{accepted-yes, layers-few}
-use Rattle.layers.proofs.Fits.{place-in}
-use Rattle.layers.proofs.Grids.{Spot}
+use Rattle.sheet.proofs.Rises.{rises}
+use Rattle.sheet.proofs.Accepting.{accepted-yes, layers-few}
+use Rattle.sheet.proofs.Fits.{place-in}
+use Rattle.layers.proofs.Spots.{Spot}
 use Rattle.layers.proofs.Point.{within-more, rebuilt-carry, coefficient-range}
 use Rattle.layers.proofs.Members.{layer-of}
 use Rattle.layers.proofs.Law.{length-blank, coef-at, stage-near, stage-rel}

@@ -13,19 +13,20 @@ use lib.Arith.{digits-lt, digits-mod}
 use lib.IntN.{ℤ, pos}
 use lib.ListN.{length, set}
 use borrow.Author.Tests.{ne-eqb, eq-eqb}
-use Rattle.layers.specs.declared.Shape.{Shape}
-use Rattle.layers.specs.declared.Curve.{Curve}
-use Rattle.layers.specs.declared.Grid.{Grid}
-use Rattle.layers.specs.Limits.{pointsMost}
-use Rattle.layers.specs.Lists.{at, tabulate}
-use Rattle.layers.specs.Sheet.{points, place, direction, spacing, inLayer}
+use Rattle.sheet.specs.declared.Shape.{Shape}
+use Rattle.sheet.specs.declared.Curve.{Curve}
+use Rattle.sheet.specs.declared.Grid.{Grid}
+use Rattle.sheet.specs.Limits.{pointsMost}
+use Rattle.sheet.specs.Lists.{at, tabulate}
+use Rattle.sheet.specs.Sheet.{points, place, direction, spacing, inLayer}
 use Rattle.layers.specs.Loops.{inRow, inSheet, Below, AtLayer, AtSheet, AtRow, AtPoint}
 use Rattle.integers.proofs.Bools.{and-no-right, cond-yes}
-use Rattle.layers.proofs.Accepting.{Sheet, accepted-yes}
-use Rattle.layers.proofs.Fits.{place-in}
+use Rattle.sheet.proofs.Accepting.{Sheet, accepted-yes}
+use Rattle.sheet.proofs.Fits.{place-in}
 use Rattle.layers.proofs.SheetLaw.{sheet-proper}
 use Rattle.layers.proofs.Sweep.{Swept, Local, Spans, only, swept-none, swept-more, swept-all, outside, only-local, only-start, only-end, swept-only}
-use Rattle.layers.proofs.Grids.{Good, layer-good, grid-named, onSheet, onRow, onCol, row-of, col-of, off-sheet, off-row, off-col, Spot}
+use Rattle.sheet.proofs.OnGrid.{Good, layer-good, grid-named, onSheet, onRow, onCol, row-of, col-of, off-sheet, off-row, off-col}
+use Rattle.layers.proofs.Spots.{Spot}
 use Rattle.layers.proofs.Walk.{reach, reach-in, reach-end, walk-start, walk-step}
 
 -- the numbers l with the points of a part before p made by f: vs

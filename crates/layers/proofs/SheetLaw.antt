@@ -13,22 +13,22 @@ use lib.Arith.{digits-div, digits-mod}
 use lib.Dec.{leb, ltb, eqb}
 use lib.IntN.{ℤ, pos}
 use borrow.Author.Tests.{ltb-true, leb-true, eqb-true}
-use Rattle.layers.specs.declared.Shape.{Shape}
-use Rattle.layers.specs.declared.Curve.{Curve}
-use Rattle.layers.specs.declared.Curve.the-variants.{Linear, Cubic}
-use Rattle.layers.specs.declared.Direction.{Direction}
-use Rattle.layers.specs.declared.Direction.the-variants.{Anchor, Across, Down, Between}
-use Rattle.layers.specs.Lists.{at}
-use Rattle.layers.specs.Sheet.{accepted, points, place, directions, layers, member, direction, spacing, has, inLayer}
+use Rattle.sheet.specs.declared.Shape.{Shape}
+use Rattle.sheet.specs.declared.Curve.{Curve}
+use Rattle.sheet.specs.declared.Curve.the-variants.{Linear, Cubic}
+use Rattle.sheet.specs.declared.Direction.{Direction}
+use Rattle.sheet.specs.declared.Direction.the-variants.{Anchor, Across, Down, Between}
+use Rattle.sheet.specs.Lists.{at}
+use Rattle.sheet.specs.Sheet.{accepted, points, place, directions, layers, member, direction, spacing, has, inLayer}
 use Rattle.layers.specs.Prediction.{linear, cubic, on, usesFour, line, predicted, predictedAt}
 use Rattle.layers.specs.Layering.{Proper, Carries, layering}
 use Rattle.layers.specs.Layering as Y
-use Rattle.layers.proofs.Accepting.{accepted-yes}
+use Rattle.sheet.proofs.Accepting.{accepted-yes}
 use Rattle.integers.proofs.Bools.{and-left, and-right, by, cond-rel}
-use Rattle.layers.proofs.Parity.{odd-after, odd-after-3, odd-before, odd-before-3}
-use Rattle.layers.proofs.Earlier.{mult, odd, Looks}
-use Rattle.layers.proofs.Cover.{known, all-known, fresh, looks-known}
-use Rattle.layers.proofs.Fits.{place-in, on-row, on-column, on-depth, sheet-of, row-in, col-in, spacing-some}
+use Rattle.sheet.proofs.Parity.{odd-after, odd-after-3, odd-before, odd-before-3}
+use Rattle.sheet.proofs.Earlier.{mult, odd, Looks}
+use Rattle.sheet.proofs.Cover.{known, all-known, fresh, looks-known}
+use Rattle.sheet.proofs.Fits.{place-in, on-row, on-column, on-depth, sheet-of, row-in, col-in, spacing-some}
 use Rattle.layers.proofs.Members.{layer-of, only-one}
 
 -- what the prediction rule makes of a relation: of one value, of two, and of four where the curve takes four

@@ -11,17 +11,17 @@ use lib.IntN.{ℤ}
 use borrow.Author.Tests.{eqb-true, eqb-false, ne-eqb}
 use Rattle.integers.specs.Distance.{Near}
 use Rattle.integers.proofs.Near.{near-trans}
-use Rattle.layers.specs.declared.Shape.{Shape}
-use Rattle.layers.specs.declared.Curve.{Curve}
-use Rattle.layers.specs.Lists.{at}
-use Rattle.layers.specs.Sheet.{accepted, points, place, layers, spacing, inLayer, layerSize}
+use Rattle.sheet.specs.declared.Shape.{Shape}
+use Rattle.sheet.specs.declared.Curve.{Curve}
+use Rattle.sheet.specs.Lists.{at}
+use Rattle.sheet.specs.Sheet.{accepted, points, place, layers, spacing, inLayer, layerSize}
 use Rattle.layers.specs.Prediction.{width}
 use Rattle.layers.specs.Layering.{layering, rebuilt, coefs}
 use Rattle.layers.specs.Carry.{carry, standing}
 use Rattle.integers.proofs.Bools.{by}
-use Rattle.layers.proofs.Accepting.{accepted-yes}
-use Rattle.layers.proofs.Fits.{place-in}
-use Rattle.layers.proofs.Places.{size-none}
+use Rattle.sheet.proofs.Accepting.{accepted-yes}
+use Rattle.sheet.proofs.Fits.{place-in}
+use Rattle.sheet.proofs.Places.{size-none}
 use Rattle.layers.proofs.SheetLaw.{sheet-proper}
 use Rattle.layers.proofs.Carry.{carried-none, carried-up, sheet-near}
 use Rattle.layers.proofs.Law.{read-back, written-near}

@@ -3,10 +3,10 @@ use mathlib.Core.Path.{_≡_, refl}
 use mathlib.Core.List.{List, [], _∷_}
 use lib.IntN.{ℤ, pos, negsuc}
 use Rattle.integers.specs.Floor.{floorDiv, ceilDiv}
-use Rattle.layers.specs.declared.Shape.{Shape}
-use Rattle.layers.specs.declared.Curve.the-variants.{Linear, Cubic}
-use Rattle.layers.specs.Lists.{tabulate}
-use Rattle.layers.specs.Sheet.{directions, spacing, inLayer}
+use Rattle.sheet.specs.declared.Shape.{Shape}
+use Rattle.sheet.specs.declared.Curve.the-variants.{Linear, Cubic}
+use Rattle.sheet.specs.Lists.{tabulate}
+use Rattle.sheet.specs.Sheet.{directions, spacing, inLayer}
 use Rattle.layers.specs.Prediction.{cubic, linear, line, predictedAt, width, coefficientOf, rebuiltFrom}
 use Rattle.layers.specs.Layering.{layering, pointBy, layerBy, valuesBy, alongside, written, coefs}
 use Rattle.layers.specs.Carry.{carried}

@@ -6,21 +6,24 @@ use lib.Dec.{leb, ltb, eqb}
 use lib.IntN.{ℤ, pos, negℤ}
 use lib.ListN.{length}
 use lib.Signed.{leZ}
-use Rattle.layers.specs.declared.Shape.{Shape}
-use Rattle.layers.specs.declared.Curve.{Curve}
-use Rattle.layers.specs.declared.Lines.{Lines}
+use Rattle.sheet.specs.declared.Shape.{Shape}
+use Rattle.sheet.specs.declared.Curve.{Curve}
 use Rattle.layers.specs.declared.Scan.{Scan}
 use Rattle.layers.specs.declared.Scan.the-variants.{Clear, OutAt}
 use Rattle.layers.specs.declared.Quantized.{Quantized}
 use Rattle.layers.specs.declared.Quantized.the-variants.{Done, Refused, OutOfRange}
-use Rattle.layers.specs.Limits.{stepMost, sampleMost}
-use Rattle.layers.specs.Sheet.{accepted, points, layers, layerSize}
+use Rattle.sheet.specs.Limits.{stepMost, sampleMost}
+use Rattle.sheet.specs.Sheet.{accepted, points}
+use Rattle.layers.specs.Prediction.{width}
 use Rattle.layers.specs.Layering.{layering, rebuilt, written, coefs}
-use Rattle.layers.specs.Loops.{linesOf, joined}
 
 -- a shape and a step that document 01 accepts
 unfoldable pub settled : Shape → ℕ → Bool
 settled sh e = accepted sh && leb e stepMost
+
+-- w of any step: 0 where it is not accepted
+unfoldable pub widthOf : ℕ → ℕ
+widthOf e = cond (leb e stepMost) (width e) 0
 
 -- a slice has a number for each point
 unfoldable pub full : Shape → List ℤ → Bool
@@ -65,15 +68,3 @@ quantizing sh curve e xs qs vs =
     cond (quantizable sh e xs qs vs)
     (afterScan sh curve e xs qs vs (scanned (sh .cols) xs))
     (record { answer = Refused; coefficients = qs; values = vs })
-
--- ---- the points of a layer; a layer that is not there has none
-unfoldable pub sizing : Shape → ℕ → ℕ
-sizing sh k = cond (accepted sh && ltb k (layers sh)) (layerSize sh k) 0
-
--- ---- a layer as lines: its rows, joined where each has one point; a layer that is not there has none
-unfoldable pub rowLines : Shape → ℕ → Lines
-rowLines sh k =
-    cond (accepted sh && ltb k (layers sh)) (linesOf sh k) (record { first = 0; sheets = 0; beyond = 0; lines = 0; apart = 0; points = 0; stride = 0 })
-
-abbrev pub layerLines : Shape → ℕ → Lines
-layerLines sh k = joined (rowLines sh k)

@@ -5,17 +5,17 @@ use lib.Dec.{eqb}
 use lib.IntN.{ℤ, pos, negℤ, _-ℤ_, _*ℤ_}
 use Rattle.integers.specs.Distance.{up, down}
 use Rattle.integers.specs.Floor.{floorDiv, ceilDiv}
-use Rattle.layers.specs.declared.Shape.{Shape}
-use Rattle.layers.specs.declared.Curve.{Curve}
-use Rattle.layers.specs.declared.Curve.the-variants.{Linear, Cubic}
-use Rattle.layers.specs.Sheet.{layerSize}
+use Rattle.sheet.specs.declared.Shape.{Shape}
+use Rattle.sheet.specs.declared.Curve.{Curve}
+use Rattle.sheet.specs.declared.Curve.the-variants.{Linear, Cubic}
+use Rattle.sheet.specs.Sheet.{layerSize}
 
 -- "linear: M stays M; cubic: 5M/4 rounded up"
 unfoldable pub carried : Curve → ℕ → ℕ
 carried Linear m = m
 carried Cubic m = ceilDiv (5 * m) 4
 
--- what layer k of a sheet carries M to
+-- what layer k of a sheet carries M to; request 3 will ask how many points stand on its lines, so shape and layer are at hand
 abbrev pub carry : Shape → Curve → ℕ → ℕ → ℕ
 carry sh curve k m = carried curve m
 

@@ -6,10 +6,10 @@ use mathlib.Core.Path.{_≡_}
 use Prim.Native.Nat.{ℕ, zero, suc, _<_}
 use lib.IntN.{ℤ, pos}
 use lib.ListN.{length, replicate}
-use Rattle.layers.specs.declared.Shape.{Shape}
-use Rattle.layers.specs.declared.Curve.{Curve}
-use Rattle.layers.specs.Lists.{at, tabulate}
-use Rattle.layers.specs.Sheet.{points, layers, inLayer}
+use Rattle.sheet.specs.declared.Shape.{Shape}
+use Rattle.sheet.specs.declared.Curve.{Curve}
+use Rattle.sheet.specs.Lists.{at, tabulate}
+use Rattle.sheet.specs.Sheet.{points, layers, inLayer}
 use Rattle.layers.specs.Prediction.{predictedAt, coefficientOf, rebuiltFrom}
 
 pub record Layering : Type 0 where

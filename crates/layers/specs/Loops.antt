@@ -3,32 +3,22 @@ use mathlib.Core.Bool.{Bool, true, false, cond}
 use mathlib.Core.List.{List}
 use mathlib.Core.Path.{_≡_}
 use Prim.Native.Nat.{ℕ, _+_, _-_, _*_, _/_, _%_, _^_, _<_, _≤_}
-use lib.Dec.{ltb, eqb}
+use lib.Dec.{eqb}
 use lib.IntN.{ℤ}
 use lib.ListN.{length}
 use Rattle.integers.specs.Distance.{Within}
-use Rattle.layers.specs.declared.Shape.{Shape}
-use Rattle.layers.specs.declared.Curve.{Curve}
-use Rattle.layers.specs.declared.Grid.{Grid}
-use Rattle.layers.specs.declared.Lines.{Lines}
+use Rattle.sheet.specs.declared.Shape.{Shape}
+use Rattle.sheet.specs.declared.Curve.{Curve}
+use Rattle.sheet.specs.declared.Grid.{Grid}
 use Rattle.layers.specs.declared.Crossing.{Crossing}
-use Rattle.layers.specs.declared.Direction.{Direction}
-use Rattle.layers.specs.declared.Direction.the-variants.{Anchor, Across, Down, Between}
-use Rattle.layers.specs.Limits.{pointsMost, levelsMost, stepMost, sampleMost}
-use Rattle.layers.specs.Lists.{at, tabulate}
-use Rattle.layers.specs.Sheet.{accepted, points, place, layers, direction, spacing}
+use Rattle.sheet.specs.declared.Direction.{Direction}
+use Rattle.sheet.specs.declared.Direction.the-variants.{Anchor, Across, Down, Between}
+use Rattle.sheet.specs.Limits.{pointsMost, levelsMost, stepMost, sampleMost}
+use Rattle.sheet.specs.Lists.{at, tabulate}
+use Rattle.sheet.specs.Sheet.{accepted, points, place, layers}
+use Rattle.sheet.specs.Lines.{gridOf}
 use Rattle.layers.specs.Prediction.{on}
 use Rattle.layers.specs.Layering.{layering, known, pointBy}
-
--- ---- a layer as a grid
-abbrev pub gridFor : ℕ → Direction → ℕ → Grid
-gridFor k Anchor s = record { layer = k; direction = Anchor; spacing = s; sheet = 0; deep = s; row = 0; down = s; col = 0; right = s }
-gridFor k Across s = record { layer = k; direction = Across; spacing = s; sheet = 0; deep = 2 * s; row = 0; down = 2 * s; col = s; right = 2 * s }
-gridFor k Down s = record { layer = k; direction = Down; spacing = s; sheet = 0; deep = 2 * s; row = s; down = 2 * s; col = 0; right = s }
-gridFor k Between s = record { layer = k; direction = Between; spacing = s; sheet = s; deep = 2 * s; row = 0; down = s; col = 0; right = s }
-
-abbrev pub gridOf : Shape → ℕ → Grid
-gridOf sh k = gridFor k (direction sh k) (spacing sh k)
 
 -- ---- the lines that cross row r of sheet z: its columns, or those from sheet to sheet for a layer between. Anchors and layers across ask for none
 abbrev pub columns : Shape → ℕ → ℕ → Crossing
@@ -47,10 +37,6 @@ crosses Across = false
 crosses Down = true
 crosses Between = true
 
--- a single column stands in memory as a single row does, and is walked as one
-abbrev pub laid : Shape → Shape
-laid sh = cond (eqb (sh .cols) 1) (record { depth = sh .depth; rows = 1; cols = sh .rows; levels = sh .levels }) sh
-
 -- ---- parts of a layer: does the point p stand in row y, counted on through the sheets? in sheet z?
 abbrev pub inRow : Shape → ℕ → ℕ → Bool
 inRow sh y p = eqb (p / sh .cols) y
@@ -61,37 +47,6 @@ inSheet sh z p = eqb (p / sh .cols / sh .rows) z
 -- one row or one sheet of layer k, all of its points at once: every other point keeps its own number
 unfoldable pub partBy : Shape → Curve → ℕ → (ℕ → Bool) → (ℤ → ℕ → ℤ) → List ℤ → List ℤ → List ℤ
 partBy sh curve k part g vs old = tabulate (length old) (λ p. cond (part p) (pointBy (layering sh curve) k g vs old p) (at old p))
-
--- how many of first, first + stride, .. lie below end
-unfoldable pub steps : ℕ → ℕ → ℕ → ℕ
-steps first stride end = cond (ltb first end) ((end - first - 1) / stride + 1) 0
-
--- and as lines: every row of the grid is one
-abbrev pub linesOn : Shape → Grid → Lines
-linesOn sh g =
-    record {
-      first = place sh (g .sheet) (g .row) (g .col);
-      sheets = steps (g .sheet) (g .deep) (sh .depth);
-      beyond = g .deep * sh .rows * sh .cols;
-      lines = steps (g .row) (g .down) (sh .rows);
-      apart = g .down * sh .cols;
-      points = steps (g .col) (g .right) (sh .cols);
-      stride = g .right;
-    }
-
-abbrev pub linesOf : Shape → ℕ → Lines
-linesOf sh k = linesOn sh (gridOf sh k)
-
--- where every row has one point, the points of a sheet are one line
-abbrev pub oneLine : Lines → Lines
-oneLine l = record { first = l .first; sheets = l .sheets; beyond = l .beyond; lines = 1; apart = l .apart; points = l .lines; stride = l .apart }
-
-unfoldable pub joined : Lines → Lines
-joined l = cond (eqb (l .points) 1) (oneLine l) l
-
--- where line t starts, lines counted on through the sheets
-unfoldable pub lineStart : Lines → ℕ → ℕ
-lineStart l t = l .first + t / l .lines * l .beyond + t % l .lines * l .apart
 
 -- ---- bounds
 -- a value written is within the step of its sample, and a cubic prediction from such values within little more than five quarters of that

@@ -5,13 +5,13 @@ use Prim.Native.Nat.{ℕ, _+_, _-_, _*_, _/_, _%_}
 use lib.Dec.{leb, ltb}
 use lib.IntN.{ℤ, pos, negℤ, _+ℤ_, _-ℤ_, _*ℤ_}
 use Rattle.integers.specs.Floor.{floorDiv}
-use Rattle.layers.specs.declared.Shape.{Shape}
-use Rattle.layers.specs.declared.Curve.{Curve}
-use Rattle.layers.specs.declared.Curve.the-variants.{Linear, Cubic}
-use Rattle.layers.specs.declared.Direction.{Direction}
-use Rattle.layers.specs.declared.Direction.the-variants.{Anchor, Across, Down, Between}
-use Rattle.layers.specs.Lists.{at}
-use Rattle.layers.specs.Sheet.{place, direction, spacing, along}
+use Rattle.sheet.specs.declared.Shape.{Shape}
+use Rattle.sheet.specs.declared.Curve.{Curve}
+use Rattle.sheet.specs.declared.Curve.the-variants.{Linear, Cubic}
+use Rattle.sheet.specs.declared.Direction.{Direction}
+use Rattle.sheet.specs.declared.Direction.the-variants.{Anchor, Across, Down, Between}
+use Rattle.sheet.specs.Lists.{at}
+use Rattle.sheet.specs.Sheet.{place, direction, spacing, along}
 
 -- "(-a + 9b + 9c - d) / 16, rounded towards minus infinity"
 unfoldable pub cubic : ℤ → ℤ → ℤ → ℤ → ℤ

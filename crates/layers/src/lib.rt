@@ -1,79 +1,17 @@
 // A sheet's layers: quantizing samples to coefficients and values, and rebuilding values from coefficients, in the caller's slices.
 // Each layer is walked as a grid of rows and columns; of sheets too, once request 10 brings stacks of them.
+ghost use mathlib.Core.Path.{_≡_};
+ghost use Rattle.layers.specs.Calls as C;
+
 mod prediction;
 mod quantizing;
 mod rebuilding;
-mod sheet;
 
+pub use prediction::width_of;
 pub use quantizing::quantize;
 pub use rebuilding::rebuild;
-pub use sheet::accepted;
-pub use sheet::layer_count;
-pub use sheet::layer_lines;
-pub use sheet::layer_size;
-pub use sheet::sheet_of;
-pub use sheet::sized;
-
-// Document 01's sizes of a sheet, and the layers that so many levels make.
-pub const MOST_POINTS: usize = 8192;
-
-// Sheets in a stack: one, until request 10 makes it 64.
-pub const MOST_DEPTH: usize = 1;
-
-pub const MOST_LEVELS: usize = 6;
-
-// Across and down; a third, between sheets, where there are several.
-const MOST_DIRECTIONS: usize = 2 + (1 < MOST_DEPTH) as usize;
-
-pub const MOST_LAYERS: usize = 1 + MOST_DIRECTIONS * MOST_LEVELS;
-
-pub const MOST_STEP: u64 = 65535;
-
-// Rows, columns and levels, as the caller gives them; and the depth, which is 1 of a sheet by itself.
-pub struct Shape {
-    pub depth: usize,
-    pub rows: usize,
-    pub cols: usize,
-    pub levels: usize,
-}
-
-pub enum Curve {
-    Linear,
-    Cubic,
-}
-
-pub enum Direction {
-    Anchor,
-    Across,
-    Down,
-    Between,
-}
-
-// A layer's number, direction and spacing, worked out once, and its points: rows row, row + down, .. and columns col, col + right, .. of the
-// sheets sheet, sheet + deep, ..
-pub struct Grid {
-    pub layer: usize,
-    pub direction: Direction,
-    pub spacing: usize,
-    pub sheet: usize,
-    pub deep: usize,
-    pub row: usize,
-    pub down: usize,
-    pub col: usize,
-    pub right: usize,
-}
-
-// A layer as lines: its first point, how many lines and how far apart, and on each how many points and how far apart; and how many sheets of
-// such lines, and how far apart.
-pub struct Lines {
-    pub first: usize,
-    pub sheets: usize,
-    pub beyond: usize,
-    pub lines: usize,
-    pub apart: usize,
-    pub points: usize,
-    pub stride: usize,
-}
+use sheet::MOST_STEP;
+use sheet::Shape;
 
 // The lines that cross a row at its points: each has `count` points, `stride` apart, and starts at `start` and the point's column; the point has
 // `place` on it.
@@ -95,4 +33,14 @@ pub enum Quantized {
     Done,
     Refused,
     OutOfRange { row: usize, col: usize },
+}
+
+// Can a sheet be written or rebuilt so: a shape and a step that are accepted?
+pub(crate) fn settled(shape: Shape, step: u64) -> bool
+    ensures { λ r. ⌜ r ≡ C.settled shape step ⌝ }
+{
+    if sheet::accepted(shape) {
+        return step <= MOST_STEP;
+    }
+    false
 }

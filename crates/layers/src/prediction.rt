@@ -4,14 +4,16 @@ ghost use mathlib.Core.Bool.{true};
 ghost use Prim.Native.Nat.{_+_, _-_, _*_, _^_, _<_, _≤_};
 ghost use lib.ListN.{length};
 ghost use Rattle.integers.specs.Distance.{Within};
-ghost use Rattle.layers.specs.Limits.{pointsMost, levelsMost, stepMost};
-ghost use Rattle.layers.specs.Sheet as S;
+ghost use Rattle.sheet.specs.Limits.{pointsMost, levelsMost, stepMost};
+ghost use Rattle.sheet.specs.Sheet as S;
 ghost use Rattle.layers.specs.Prediction as P;
+ghost use Rattle.layers.specs.Calls as C;
 ghost use Rattle.layers.specs.Loops as L;
 use crate::Crossing;
-use crate::Curve;
-use crate::Direction;
-use crate::Shape;
+use sheet::Curve;
+use sheet::Direction;
+use sheet::MOST_STEP;
+use sheet::Shape;
 
 // "a line is the lent sheet with a first point, a spacing and a count" (document 01). Its spacing is called its stride, since a layer has a
 // spacing too.
@@ -175,10 +177,28 @@ pub(crate) fn crossing(shape: Shape, direction: Direction, sheet: usize, row: us
     }
 }
 
+// w: how far apart the values of neighbouring coefficients are.
+pub(crate) fn width(step: u64) -> u64
+    requires { ⌜ step ≤ stepMost ⌝ }
+    ensures { λ r. ⌜ r ≡ P.width step ⌝ }
+{
+    2 * step + 1
+}
+
+// The same for any step; 0 where it is not accepted.
+pub fn width_of(step: u64) -> u64
+    ensures { λ r. ⌜ r ≡ C.widthOf step ⌝ }
+{
+    if MOST_STEP < step {
+        return 0;
+    }
+    width(step)
+}
+
 // The value that a coefficient gives where y is predicted.
 pub(crate) fn value(y: i64, q: i32, step: u64) -> i64
     requires { ⌜ Within (2 * L.valueMost) y × (step ≤ stepMost) ⌝ }
     ensures { λ v. ⌜ v ≡ P.rebuiltFrom y q step ⌝ }
 {
-    y + q as i64 * (2 * step + 1) as i64
+    y + q as i64 * width(step) as i64
 }

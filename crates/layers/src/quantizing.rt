@@ -4,27 +4,28 @@ ghost use mathlib.Core.Bool.{true};
 ghost use Prim.Native.Nat.{_+_, _*_, _<_, _≤_};
 ghost use lib.ListN.{length};
 ghost use Rattle.integers.specs.Distance.{Within};
-ghost use Rattle.layers.specs.Limits.{stepMost, sampleMost};
-ghost use Rattle.layers.specs.declared.Curve as D;
-ghost use Rattle.layers.specs.declared.Direction.the-variants.{Anchor, Across};
-ghost use Rattle.layers.specs.Sheet as S;
+ghost use Rattle.sheet.specs.Limits.{stepMost, sampleMost};
+ghost use Rattle.sheet.specs.declared.Curve as D;
+ghost use Rattle.sheet.specs.declared.Direction.the-variants.{Anchor, Across};
+ghost use Rattle.sheet.specs.Sheet as S;
 ghost use Rattle.layers.specs.Prediction as P;
 ghost use Rattle.layers.specs.Layering as Y;
 ghost use Rattle.layers.specs.Calls as C;
 ghost use Rattle.layers.specs.Loops as L;
-use crate::Curve;
-use crate::Direction;
-use crate::Grid;
 use crate::Quantized;
 use crate::Scan;
-use crate::Shape;
 use crate::prediction::crossing;
 use crate::prediction::predict_along;
 use crate::prediction::value;
-use crate::sheet::grid_of;
-use crate::sheet::laid;
-use crate::sheet::layer_count;
-use crate::sheet::settled;
+use crate::prediction::width;
+use crate::settled;
+use sheet::Curve;
+use sheet::Direction;
+use sheet::Grid;
+use sheet::Shape;
+use sheet::grid_of;
+use sheet::laid;
+use sheet::layer_count;
 
 const MOST_SAMPLE: i32 = 1048575;
 
@@ -59,7 +60,7 @@ fn coefficient(sample: i32, y: i64, step: u64) -> i32
     requires { ⌜ Within sampleMost sample × Within L.predictedMost y × (step ≤ stepMost) ⌝ }
     ensures { λ q. ⌜ q ≡ P.coefficientOf sample y step ⌝ }
 {
-    integers::floor_div(sample as i64 - y + step as i64, 2 * step + 1) as i32
+    integers::floor_div(sample as i64 - y + step as i64, width(step)) as i32
 }
 
 // One row of anchors, in place: they are predicted as 0.
@@ -309,11 +310,7 @@ pub fn quantize(
     if !settled(shape, step) {
         return Quantized::Refused;
     }
-    let depth = shape.depth;
-    let rows = shape.rows;
-    let cols = shape.cols;
-    let lines = depth * rows;
-    let points = lines * cols;
+    let points = sheet::points(shape);
     if samples.len() != points {
         return Quantized::Refused;
     }
@@ -323,7 +320,10 @@ pub fn quantize(
     if values.len() != points {
         return Quantized::Refused;
     }
-    match scan_samples(samples, lines, cols) {
+    let depth = shape.depth;
+    let rows = shape.rows;
+    let cols = shape.cols;
+    match scan_samples(samples, depth * rows, cols) {
         Scan::OutAt { row, col } => Quantized::OutOfRange { row, col },
         Scan::Clear => {
             quantize_layers(samples, laid(shape), curve, step, coefficients, values);

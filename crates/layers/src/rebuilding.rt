@@ -5,25 +5,25 @@ ghost use mathlib.Core.Bool.{true};
 ghost use Prim.Native.Nat.{ℕ, _+_, _*_, _^_, _<_, _≤_};
 ghost use lib.ListN.{length};
 ghost use Rattle.integers.specs.Distance.{Within};
-ghost use Rattle.layers.specs.Limits.{stepMost};
-ghost use Rattle.layers.specs.Lists.{at};
-ghost use Rattle.layers.specs.declared.Curve as D;
-ghost use Rattle.layers.specs.declared.Direction.the-variants.{Anchor, Across};
-ghost use Rattle.layers.specs.Sheet as S;
+ghost use Rattle.sheet.specs.Limits.{stepMost};
+ghost use Rattle.sheet.specs.Lists.{at};
+ghost use Rattle.sheet.specs.declared.Curve as D;
+ghost use Rattle.sheet.specs.declared.Direction.the-variants.{Anchor, Across};
+ghost use Rattle.sheet.specs.Sheet as S;
 ghost use Rattle.layers.specs.Layering as Y;
 ghost use Rattle.layers.specs.Calls as C;
 ghost use Rattle.layers.specs.Loops as L;
-use crate::Curve;
-use crate::Direction;
-use crate::Grid;
-use crate::Shape;
 use crate::prediction::crossing;
 use crate::prediction::predict_along;
 use crate::prediction::value;
-use crate::sheet::grid_of;
-use crate::sheet::laid;
-use crate::sheet::layer_count;
-use crate::sheet::settled;
+use crate::settled;
+use sheet::Curve;
+use sheet::Direction;
+use sheet::Grid;
+use sheet::Shape;
+use sheet::grid_of;
+use sheet::laid;
+use sheet::layer_count;
 
 // One row of anchors, in place: they are predicted as 0.
 fn rebuild_anchors(
@@ -223,10 +223,7 @@ pub fn rebuild(
     if !settled(shape, step) {
         return false;
     }
-    let depth = shape.depth;
-    let rows = shape.rows;
-    let cols = shape.cols;
-    let points = depth * rows * cols;
+    let points = sheet::points(shape);
     if coefficients.len() != points {
         return false;
     }

@@ -8,9 +8,9 @@ use native.Mathlib.Decide.{decLt, ℕ-discrete}
 use native.Mathlib.Omega.{arith}
 use lib.ListN.{length, take, length-append, List·getD-append, List·getD-eq-default}
 use lib.Seq.{take-all, take-suc, length-take-le, getD-take, getD-at}
-use Rattle.layers.specs.Limits.{layersMost}
 use Rattle.header.specs.declared.Header.{Header}
 use Rattle.header.specs.Header.{planesOf}
+use Rattle.header.specs.Plan.{layersMost}
 use Rattle.planner.specs.Planning.{counts, PlanOf, withUpTo, eachUpTo, listsUpTo, plansOf}
 
 -- ---- among the lists of a list

@@ -7,13 +7,11 @@ use native.Mathlib.Nat.{le-refl}
 use native.Mathlib.Omega.{arith}
 use borrow.Author.Tests.{le-leb}
 use lib.ListN.{length, replicate, length-replicate}
-use Rattle.layers.specs.Limits.{layersMost}
-use Rattle.layers.specs.Sheet.{layers}
-use Rattle.layers.proofs.Lists.{getD-zeros}
 use Rattle.header.specs.declared.Header.{Header}
-use Rattle.header.specs.Header.{planesOf, cellsOf}
-use Rattle.header.proofs.Figures.{figure-all}
-use Rattle.header.proofs.Totals.{total-none}
+use Rattle.header.specs.Header.{planesOf}
+use Rattle.header.specs.Plan.{layersMost}
+use Rattle.header.proofs.Cells.{none-loaded, none-cells}
+use Rattle.figure.proofs.Figures.{figure-all}
 use Rattle.planner.specs.Planning.{PlanOf, plansOf, better, bestOf, Best, cellsIn, figureIn, withinLimit, withinCells, betterByLimit, betterByCells, bestByLimit, bestByCells}
 use Rattle.planner.proofs.Orders.{better-strict, better-apart}
 use Rattle.planner.proofs.AllPlans.{plans-has, plans-only}
@@ -51,17 +49,13 @@ module _ (h : Header) (long : length (h .planes) ≡ layersMost) (limit : ℕ) (
 -- ---- in so many cells
 module _ (h : Header) (most : ℕ) where
   none-plan : PlanOf h (replicate layersMost 0)
-  none-plan = record { long = length-replicate {A = ℕ} layersMost 0; within = λ k. omega (arith, getD-zeros layersMost k) }
-
-  none-cells : cellsIn h (replicate layersMost 0) ≡ 0
-  unfolding cellsOf
-  none-cells = total-none _ (layers (h .shape)) (λ k _. rw (getD-zeros layersMost k) (omega arith))
+  none-plan = record { long = length-replicate {A = ℕ} layersMost 0; within = λ k. omega (arith, none-loaded k) }
 
   pub by-cells-best : Best h (withinCells h most) (betterByCells h) (bestByCells h most)
   unfolding bestByCells
   by-cells-best =
       kept-best h (withinCells h most) (figureIn h) (cellsIn h) (replicate layersMost 0) none-plan
-      (le-leb (cellsIn h (replicate layersMost 0)) most (omega (arith, none-cells)))
+      (le-leb (cellsIn h (replicate layersMost 0)) most (omega (arith, none-cells (h .shape))))
 
   pub by-cells-only : (ns : List ℕ) → Best h (withinCells h most) (betterByCells h) ns → ns ≡ bestByCells h most
   by-cells-only ns b = best-unique h (withinCells h most) (figureIn h) (cellsIn h) ns (bestByCells h most) b by-cells-best

@@ -6,16 +6,16 @@ use native.Mathlib.Nat.{le-refl, mul-le-mul-right, le-of-suc-le-suc, not-suc-le-
 use native.Mathlib.Decide.{decLe, decLt}
 use native.Mathlib.Omega.{arith}
 use borrow.Author.Tests.{le-leb, lt-leb, ne-eqb}
-use Rattle.layers.specs.Limits.{layersMost}
-use Rattle.layers.proofs.Rises.{rises}
 use Rattle.header.specs.declared.Header.{Header}
 use Rattle.header.specs.Header.{cellsMost}
+use Rattle.header.specs.Plan.{layersMost}
 use Rattle.header.specs.Opening.{right}
 use Rattle.header.proofs.Rightness.{right-yes, counts-few, layers-few}
 use Rattle.header.proofs.Total.{cells-most}
+use Rattle.header.proofs.Totals.{total-rises}
 use Rattle.planner.specs.Table.{Layers, layersOf, cells, reach, none, leastOf, choice, best}
 use Rattle.planner.proofs.RisingCarry.{Rising, carry-up}
-use Rattle.planner.proofs.Bridge.{cells-same}
+use Rattle.planner.proofs.Bridge.{cells-total, cells-same}
 
 -- ---- the least of some numbers
 least-zero : (f : ℕ → ℕ) → leastOf f 0 ≡ none
@@ -129,7 +129,8 @@ reach-all L m h zero = le-refl 0
 reach-all L m h (suc k) = omega (arith, reach-all L m h k, mul-le-mul-right (L .span k) (h k))
 
 pub reach-rises : (L : Layers) (j k : ℕ) → j ≤ k → reach L j ≤ reach L k
-reach-rises L = rises (reach L) (λ k. unfold cells in (omega arith))
+reach-rises L j k l =
+    omega (arith, cells-total L (L .planes) j, cells-total L (L .planes) k, total-rises (λ (i : ℕ). L .planes i * L .span i) j k l)
 
 -- ---- of a header
 pub reach-most : (h : Header) → right h ≡ true → (k : ℕ) → k ≤ layersMost → reach (layersOf h) k ≤ cellsMost

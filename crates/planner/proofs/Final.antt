@@ -8,12 +8,15 @@ use native.Mathlib.Decide.{decLt}
 use native.Mathlib.Omega.{arith}
 use borrow.Author.Tests.{le-leb, leb-true}
 use lib.ListN.{length, List·getD-eq-default}
-use Rattle.layers.specs.Limits.{layersMost}
 use Rattle.header.specs.declared.Header.{Header}
 use Rattle.header.specs.Header.{planesOf}
+use Rattle.header.specs.Plan.{layersMost}
 use Rattle.header.specs.Opening.{right}
-use Rattle.header.proofs.Figures.{figure-all}
+use Rattle.header.proofs.Over.{none-over}
 use Rattle.header.proofs.Rightness.{Right, right-yes}
+use Rattle.figure.specs.Figure.{boundOf}
+use Rattle.figure.proofs.FigureCall.{bound-right}
+use Rattle.figure.proofs.Figures.{figure-all}
 use Rattle.planner.specs.Planning.{counts, PlanOf, Best, cellsIn, figureIn, withinLimit, withinCells, betterByLimit, betterByCells, bestByLimit, bestByCells}
 use Rattle.planner.specs.Table.{layersOf, cells, standing, reach, none, best, rowLength, FirstWithin, LeastWithin, Room, RowEnd, Traced, Found}
 use Rattle.planner.proofs.RisingCarry.{header-rising}
@@ -97,14 +100,6 @@ module _ (h : Header) (ok : right h ≡ true) where
     figure-own : h .step + entry size ≡ figureIn h ns
     figure-own = omega (arith, traced-standing (layersOf h) (header-rising h) (counts ns) layersMost size traced, figure-same is-right (counts ns))
 
-    found-as : (asked : List ℕ) → ns ≡ asked → Found h asked ns size (h .step + entry size)
-    found-as asked e =
-        record {
-          same = e;
-          size-is = size-own ∙ ap (cellsIn h) e;
-          figure-is = figure-own ∙ ap (figureIn h) e;
-        }
-
     module _ (long : length ns ≡ layersMost) where
       plan-of : PlanOf h ns
       plan-of =
@@ -114,6 +109,15 @@ module _ (h : Header) (ok : right h ≡ true) where
               | yes l ↦ traced-plan (layersOf h) (header-rising h) (counts ns) layersMost size traced k l
               | no l ↦ omega (arith, List·getD-eq-default ns 0 {n = k} (omega arith))
             ];
+          }
+
+      -- and the figure that is told of it is its own
+      found-as : (asked : List ℕ) → ns ≡ asked → Found h asked ns size (boundOf h (record { planes = ns }))
+      found-as asked e =
+          record {
+            same = e;
+            size-is = size-own ∙ ap (cellsIn h) e;
+            figure-is = bound-right h ok (record { planes = ns }) (none-over (planesOf h) (counts ns) (λ k _. plan-of .within k)) ∙ ap (figureIn h) e;
           }
 
       limit-best : (limit room : ℕ) → Room (h .step) limit room → FirstWithin entry room size → Best h (withinLimit h limit) (betterByLimit h) ns
@@ -145,12 +149,12 @@ module _ (h : Header) (ok : right h ≡ true) where
   module _ (long : length (h .planes) ≡ layersMost) where
     pub by-limit : (limit room size : ℕ) (ns : List ℕ) → h .step ≤ limit → Room (h .step) limit room → FirstWithin (best (layersOf h) layersMost) room size
         → Traced (layersOf h) layersMost size (counts ns) → length ns ≡ layersMost
-        → Found h (bestByLimit h limit) ns size (h .step + best (layersOf h) layersMost size)
+        → Found h (bestByLimit h limit) ns size (boundOf h (record { planes = ns }))
     by-limit limit room size ns l m f t ln =
-        found-as size ns t (bestByLimit h limit) (by-limit-only h long limit l ns (limit-best size ns t ln limit room m f))
+        found-as size ns t ln (bestByLimit h limit) (by-limit-only h long limit l ns (limit-best size ns t ln limit room m f))
 
     pub by-cells : (most top size : ℕ) (ns : List ℕ) → RowEnd most top → LeastWithin (best (layersOf h) layersMost) top size
         → Traced (layersOf h) layersMost size (counts ns) → length ns ≡ layersMost
-        → Found h (bestByCells h most) ns size (h .step + best (layersOf h) layersMost size)
+        → Found h (bestByCells h most) ns size (boundOf h (record { planes = ns }))
     by-cells most top size ns m f t ln =
-        found-as size ns t (bestByCells h most) (by-cells-only h most ns (cells-best size ns t ln most top m f))
+        found-as size ns t ln (bestByCells h most) (by-cells-only h most ns (cells-best size ns t ln most top m f))

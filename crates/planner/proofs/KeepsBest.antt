@@ -4,7 +4,7 @@ use mathlib.Core.List.{List, [], _∷_}
 use mathlib.Core.Logic.{_⊎_, inl, inr, ⊎-elim}
 use mathlib.Core.Path.{_≡_, refl, sym, subst, _∙_}
 use Prim.Native.Nat.{ℕ}
-use Rattle.integers.proofs.Bools.{by, and-left, and-right, and-both, not-yes}
+use Rattle.header.proofs.Bools.{by, and-left, and-right, and-both, not-yes}
 use Rattle.planner.specs.Planning.{bestOf}
 use Rattle.planner.proofs.Orders.{Strict}
 use Rattle.planner.proofs.AllPlans.{Among}

@@ -7,7 +7,7 @@ use native.Mathlib.Decide.{decLt}
 use native.Mathlib.Omega.{arith}
 use borrow.Author.Count.{below-more}
 use lib.ListN.{getD}
-use Rattle.layers.specs.Limits.{layersMost}
+use Rattle.header.specs.Plan.{layersMost}
 use Rattle.planner.specs.Table.{Layers, Rows, FirstWithin, LeastWithin, rowLength, best}
 
 -- ---- the first within a limit
@@ -62,7 +62,7 @@ module _ (L : Layers) (t : List ℕ) (rows : Rows L t layersMost) where
   abbrev entry : ℕ → ℕ
   entry c = getD t (layersMost * rowLength + c) 0
 
-  pub last-entry : (c : ℕ) → c < rowLength → entry c ≡ best L layersMost c
+  last-entry : (c : ℕ) → c < rowLength → entry c ≡ best L layersMost c
   last-entry c l = rows .held layersMost c (le-refl layersMost) l
 
   pub first-best : (room r : ℕ) → FirstWithin entry room r → FirstWithin (best L layersMost) room r

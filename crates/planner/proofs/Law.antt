@@ -6,7 +6,7 @@ use Prim.Native.Nat.{ℕ, zero, suc, _+_, _-_, _*_, _≤_, _<_}
 use native.Mathlib.Nat.{le-refl, not-suc-le-zero}
 use native.Mathlib.Decide.{decLt}
 use native.Mathlib.Omega.{arith}
-use Rattle.integers.proofs.Bools.{not-yes}
+use Rattle.header.proofs.Bools.{not-yes}
 use Rattle.planner.specs.Planning.{prefers, before}
 use Rattle.planner.specs.Table.{Layers, cells, standing, choice, best, Traced}
 use Rattle.planner.proofs.RisingCarry.{Rising, carry-mono, carry-one}

@@ -10,8 +10,8 @@ use borrow.Author.Tests.{ltb-true, ltb-false, lt-ltb, le-ltb, eqb-true, eq-eqb}
 use lib.Dec.{ltb, eqb}
 use lib.ListN.{length}
 use lib.Seq.{ext-getD}
-use Rattle.integers.proofs.Bools.{or-left, or-right, or-cases, and-both, and-left, and-right, not-yes}
-use Rattle.layers.specs.Limits.{layersMost}
+use Rattle.header.specs.Plan.{layersMost}
+use Rattle.header.proofs.Bools.{or-left, or-right, or-cases, and-both, and-left, and-right, not-yes}
 use Rattle.planner.specs.Planning.{counts, prefers, before, better}
 
 -- ---- strict orders

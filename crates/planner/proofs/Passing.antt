@@ -1,4 +1,4 @@
--- One pass over a row: each entry becomes the lesser of itself and of what an entry of the row before gives, and no other entry changes. So one more count of planes is tried: below its cells no choice fits, and above what the row before reaches nothing stands.
+-- One pass over a row: each entry becomes the lesser of itself and of what an entry of the row before is carried to with the planes' charge, and no other entry changes. So one more count of planes is tried: below its cells no choice fits, and above what the row before reaches nothing stands.
 use mathlib.Core.Bool.{true}
 use mathlib.Core.List.{List}
 use mathlib.Core.Path.{_≡_, refl, ap, _∙_}
@@ -9,53 +9,51 @@ use native.Mathlib.Omega.{arith}
 use borrow.Author.Count.{below-none, below-more}
 use lib.ListN.{length, getD, set, length-set}
 use lib.Seq.{getD-set-same, getD-set-other}
-use Rattle.layers.specs.Limits.{layersMost}
 use Rattle.header.specs.declared.Header.{Header}
 use Rattle.header.specs.Header.{cellsMost, planesOf, cellsAt}
+use Rattle.header.specs.Plan.{layersMost}
 use Rattle.header.specs.Opening.{right}
 use Rattle.planner.specs.Table.{Layers, layersOf, Tried, cells, reach, rowLength, leastOf, choice, best}
 use Rattle.planner.proofs.RisingCarry.{Rising, carry-up}
 use Rattle.planner.proofs.Entries.{least-suc, least-most, choice-fits, choice-over, best-none, reach-most}
 
--- the first c entries of the pass are done: from those at `from` on to those at `to` on, which lie behind them
-pub record Passed (f : ℕ → ℕ) (from to : ℕ) (t₀ t : List ℕ) (c : ℕ) : Type 0 where
+-- the first c entries of the pass are done: those at `to` on, f b being offered to the one at place b
+pub record Passed (f : ℕ → ℕ) (to : ℕ) (t₀ t : List ℕ) (c : ℕ) : Type 0 where
   pub long : length t ≡ length t₀
-  pub done : (b : ℕ) → b < c → getD t (to + b) 0 ≡ min (getD t₀ (to + b) 0) (f (getD t₀ (from + b) 0))
+  pub done : (b : ℕ) → b < c → getD t (to + b) 0 ≡ min (getD t₀ (to + b) 0) (f b)
   pub below : (i : ℕ) → i < to → getD t i 0 ≡ getD t₀ i 0
   pub above : (i : ℕ) → to + c ≤ i → getD t i 0 ≡ getD t₀ i 0
 
-module _ (f : ℕ → ℕ) (from to : ℕ) (t₀ : List ℕ) where
-  pub pass-none : Passed f from to t₀ t₀ 0
+module _ (f : ℕ → ℕ) (to : ℕ) (t₀ : List ℕ) where
+  pub pass-none : Passed f to t₀ t₀ 0
   pass-none = record { long = refl; done = below-none _; below = λ i l. refl; above = λ i l. refl }
 
   pub pass-more :
-      (t : List ℕ) (c v : ℕ) → Passed f from to t₀ t c → to + c < length t → from + c < to
-      → v ≡ min (getD t (to + c) 0) (f (getD t (from + c) 0)) → Passed f from to t₀ (set t (to + c) v) (c + 1)
-  pass-more t c v p h l e =
+      (t : List ℕ) (c v : ℕ) → Passed f to t₀ t c → to + c < length t
+      → v ≡ min (getD t (to + c) 0) (f c) → Passed f to t₀ (set t (to + c) v) (c + 1)
+  pass-more t c v p h e =
       record {
         long = length-set t (to + c) v ∙ p .long;
-        done = below-more (λ (b : ℕ). getD (set t (to + c) v) (to + b) 0 ≡ min (getD t₀ (to + b) 0) (f (getD t₀ (from + b) 0))) c
+        done = below-more (λ (b : ℕ). getD (set t (to + c) v) (to + b) 0 ≡ min (getD t₀ (to + b) 0) (f b)) c
             (λ b m. getD-set-other t (to + c) (to + b) v 0 (omega arith) ∙ p .done b m)
-            (getD-set-same t (to + c) v 0 h ∙ e ∙ rw (p .above (to + c) (le-refl (to + c)), p .below (from + c) l));
+            (getD-set-same t (to + c) v 0 h ∙ e ∙ rw (p .above (to + c) (le-refl (to + c))));
         below = λ i m. getD-set-other t (to + c) i v 0 (omega arith) ∙ p .below i m;
         above = λ i m. getD-set-other t (to + c) i v 0 (omega arith) ∙ p .above i (omega arith);
       }
 
 -- the same places by other names
-pub pass-as :
-    (f : ℕ → ℕ) (from from′ to to′ : ℕ) (t₀ t : List ℕ) (c c′ : ℕ) → from ≡ from′ → to ≡ to′ → c ≡ c′
-    → Passed f from to t₀ t c → Passed f from′ to′ t₀ t c′
-pass-as f from from′ to to′ t₀ t c c′ ef et ec p = rw (← ef, ← et, ← ec) p
+pub pass-as : (f : ℕ → ℕ) (to to′ : ℕ) (t₀ t : List ℕ) (c c′ : ℕ) → to ≡ to′ → c ≡ c′ → Passed f to t₀ t c → Passed f to′ t₀ t c′
+pass-as f to to′ t₀ t c c′ et ec p = rw (← et, ← ec) p
 
 -- ---- a count of planes is tried by a pass from row k to row k + 1, as far on as its planes have cells
-module _ (L : Layers) (rising : Rising L) (k n : ℕ) (f : ℕ → ℕ) (is : (m : ℕ) → f m ≡ L .carry k m + L .charge k n) where
+module _ (L : Layers) (rising : Rising L) (k n : ℕ) (f : ℕ → ℕ) (is : (b : ℕ) → b ≤ reach L k → f b ≡ L .carry k (best L k b) + L .charge k n) where
   abbrev used : ℕ
   used = n * L .span k
 
   abbrev least : ℕ → ℕ → ℕ
   least c = leastOf (choice L k (best L k) c)
 
-  module _ (t₀ t : List ℕ) (tried : Tried L t₀ k n) (p : Passed f (k * rowLength) (suc k * rowLength + used) t₀ t (reach L k + 1)) where
+  module _ (t₀ t : List ℕ) (tried : Tried L t₀ k n) (p : Passed f (suc k * rowLength + used) t₀ t (reach L k + 1)) where
     -- fewer cells than the planes have
     under : (c : ℕ) → c < rowLength → c < used → getD t (suc k * rowLength + c) 0 ≡ least c (suc n)
     under c l u =
@@ -79,8 +77,7 @@ module _ (L : Layers) (rising : Rising L) (k n : ℕ) (f : ℕ → ℕ) (is : (m
           ap (λ (i : ℕ). getD t₀ i 0) e,
           p .done b (omega arith),
           tried .next c l,
-          ap f (tried .held k b (le-refl k) (omega arith)),
-          is (best L k b),
+          is b m,
           choice-fits L k (best L k) c n u,
           least-suc (choice L k (best L k) c) n,
         )

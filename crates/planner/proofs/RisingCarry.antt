@@ -1,16 +1,12 @@
--- All that the table's law asks of the layers: a carry rises strictly. So it takes nothing away and tells different numbers apart. A header's carry rises, since 5m/4 does.
-use mathlib.Core.Bool.{Bool, true, false, cond}
+-- All that the table's law asks of the layers: a carry rises strictly. So it takes nothing away and tells different numbers apart. A header's carry rises by the figure's law.
 use mathlib.Core.Path.{_≡_, ap}
 use Prim.Native.Nat.{ℕ, zero, suc, _<_, _≤_, zero-le}
 use native.Mathlib.Nat.{le-refl}
 use native.Mathlib.Decide.{decLt}
 use native.Mathlib.Omega.{arith}
-use lib.Dec.{eqb}
-use Rattle.layers.specs.Calls.{sizing}
-use Rattle.layers.specs.Carry.{carry}
-use Rattle.layers.proofs.Carry.{carried-rising}
 use Rattle.header.specs.declared.Header.{Header}
-use Rattle.planner.specs.Table.{Layers, layersOf, carryOf}
+use Rattle.figure.proofs.LayerRules.{carry-rising}
+use Rattle.planner.specs.Table.{Layers, layersOf}
 
 abbrev pub Rising : Layers → Type 0
 Rising L = (k a b : ℕ) → a < b → L .carry k a < L .carry k b
@@ -39,9 +35,4 @@ module _ (L : Layers) (rising : Rising L) where
 
 -- ---- a header's
 pub header-rising : (h : Header) → Rising (layersOf h)
-unfolding carryOf
-header-rising h k a b l = step (eqb (sizing (h .shape) k) 0)
-  where
-    step : (t : Bool) → cond t a (carry (h .shape) (h .curve) k a) < cond t b (carry (h .shape) (h .curve) k b)
-    step true = l
-    step false = carried-rising (h .curve) a b l
+header-rising = carry-rising

@@ -8,7 +8,7 @@ use native.Mathlib.Omega.{arith}
 use borrow.Author.Tests.{ltb-true}
 use lib.ListN.{length, getD, set, length-set}
 use lib.Seq.{getD-set-same, getD-set-other}
-use Rattle.layers.specs.Limits.{layersMost}
+use Rattle.header.specs.Plan.{layersMost}
 use Rattle.planner.specs.Planning.{counts}
 use Rattle.planner.specs.Table.{Layers, Preferred, Traced, none, choice, best}
 use Rattle.planner.proofs.RisingCarry.{Rising}

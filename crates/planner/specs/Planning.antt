@@ -5,15 +5,14 @@ use mathlib.Core.Path.{_≡_}
 use Prim.Native.Nat.{ℕ, zero, suc, _≤_}
 use lib.Dec.{ltb, leb, eqb}
 use lib.ListN.{length, getD}
-use Rattle.layers.specs.Limits.{layersMost}
 use Rattle.header.specs.declared.Header.{Header}
 use Rattle.header.specs.declared.Plan.{Plan}
 use Rattle.header.specs.declared.Details.{Details}
 use Rattle.header.specs.Refusals.{refusal, detailsOf}
 use Rattle.header.specs.Header.{planesOf, cellsOf}
-use Rattle.header.specs.Plan.{noPlan}
+use Rattle.header.specs.Plan.{layersMost, noPlan}
 use Rattle.header.specs.Opening.{Opening, opening}
-use Rattle.header.specs.Figure.{figureOf}
+use Rattle.figure.specs.Figure.{figureOf}
 use Rattle.planner.specs.declared.Planned.{Planned}
 
 -- ---- the plans of a card

@@ -5,12 +5,10 @@ use mathlib.Core.Path.{_≡_}
 use Prim.Native.Nat.{ℕ, zero, suc, _+_, _-_, _*_, _^_, _≤_, _<_, min}
 use lib.Dec.{leb, eqb}
 use lib.ListN.{length, getD}
-use Rattle.layers.specs.Limits.{layersMost}
-use Rattle.layers.specs.Calls.{sizing}
-use Rattle.layers.specs.Carry as C
 use Rattle.header.specs.declared.Header.{Header}
 use Rattle.header.specs.Header.{cellsMost, planesOf, cellsAt}
-use Rattle.header.specs.Figure.{ownLoss}
+use Rattle.header.specs.Plan.{layersMost}
+use Rattle.figure.specs.Figure.{carryOf, chargeOf}
 use Rattle.planner.specs.Planning.{prefers, cellsIn, figureIn}
 
 -- What planning asks of the layers: layer k has planes k planes, and one of them spans span k cells. Where m stands before layer k, carry k m + charge k n
@@ -22,12 +20,6 @@ pub record Layers : Type 0 where
   pub charge : ℕ → ℕ → ℕ
 
 -- those of a header, with layers past the last that have nothing and change nothing
-unfoldable pub carryOf : Header → ℕ → ℕ → ℕ
-carryOf h k m = cond (eqb (sizing (h .shape) k) 0) m (C.carry (h .shape) (h .curve) k m)
-
-unfoldable pub chargeOf : Header → ℕ → ℕ → ℕ
-chargeOf h k n = ownLoss h (λ _. n) k
-
 abbrev pub layersOf : Header → Layers
 layersOf h = record { planes = planesOf h; span = cellsAt (h .shape); carry = carryOf h; charge = chargeOf h }
 
@@ -82,6 +74,11 @@ pub record Tried (L : Layers) (t : List ℕ) (k n : ℕ) : Type 0 where
   pub held : (j c : ℕ) → j ≤ k → c < rowLength → getD t (j * rowLength + c) 0 ≡ best L j c
   pub next : (c : ℕ) → c < rowLength → getD t (suc k * rowLength + c) 0 ≡ leastOf (choice L k (best L k) c) n
   pub rest : (i : ℕ) → suc (suc k) * rowLength ≤ i → i < tableLength → getD t i 0 ≡ none
+
+-- what row k is carried to by layer k, as far as it is reached
+pub record Held (L : Layers) (k : ℕ) (held : List ℕ) (reached : ℕ) : Type 0 where
+  pub long : length held ≡ rowLength
+  pub is : (c : ℕ) → c ≤ reached → getD held c 0 ≡ L .carry k (best L k c)
 
 -- ---- the last row
 -- r is the first of a row's places at which f is within the limit, if there is one

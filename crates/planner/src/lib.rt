@@ -6,9 +6,9 @@ ghost use Rattle.planner.specs.Planning as N;
 mod searching;
 mod table;
 
+use header::MOST_LAYERS;
 use header::Plan;
 use header::Refusal;
-use layers::MOST_LAYERS;
 use searching::search_by_cells;
 use searching::search_by_limit;
 

@@ -3,25 +3,24 @@ ghost use mathlib.Core.Path.{_≡_};
 ghost use mathlib.Core.Bool.{true};
 ghost use Prim.Native.Nat.{suc, _+_, _*_, _<_, _≤_};
 ghost use lib.ListN.{length, getD};
-ghost use Rattle.layers.specs.Limits.{layersMost};
-ghost use Rattle.header.specs.Header as Hd;
-ghost use Rattle.header.specs.Opening as O;
 ghost use Rattle.header.specs.Refusals as R;
+ghost use Rattle.header.specs.Header as Hd;
+ghost use Rattle.header.specs.Plan.{layersMost};
+ghost use Rattle.header.specs.Opening as O;
+ghost use Rattle.figure.specs.Figure as F;
 ghost use Rattle.planner.specs.Planning as N;
 ghost use Rattle.planner.specs.Table as T;
 use crate::Planned;
 use crate::table::NONE;
 use crate::table::ROW;
 use crate::table::TABLE;
-use crate::table::carry;
-use crate::table::charge;
 use crate::table::fill;
-use crate::table::rule_of;
+use figure::Rule;
 use header::Header;
 use header::MOST_CELLS;
+use header::MOST_LAYERS;
 use header::Plan;
 use header::Refusal;
-use layers::MOST_LAYERS;
 
 // The most that a plan may stand at by the limit, below NONE.
 fn room_of(step: u64, limit: u64) -> u64
@@ -73,31 +72,31 @@ fn least_within(t: &[u64], top: usize) -> usize
 }
 
 // Where the first k + 1 layers stand in c cells when layer k takes n planes and the layers before it stand as low as they can in the rest.
-fn choice_at(t: &[u64], header: Header, k: usize, c: usize, n: u64) -> u64
-    requires { ⌜ (O.right header ≡ true) × (k < layersMost) × (c < T.rowLength) × (n ≤ Hd.planesOf header k) ⌝ }
+fn choice_at(t: &[u64], header: Header, k: usize, rule: Rule, span: u64, c: usize, n: u64) -> u64
+    requires { ⌜ (O.right header ≡ true) × (k < layersMost) × (rule ≡ F.ruleOf header k) × (span ≡ Hd.cellsAt (header .shape) k) × (c < T.rowLength) × (n ≤ Hd.planesOf header k) ⌝ }
     requires { ⌜ T.Rows (T.layersOf header) (now t) layersMost ⌝ }
     ensures { λ r. ⌜ r ≡ T.choice (T.layersOf header) k (T.best (T.layersOf header) k) c n ⌝ }
 {
-    let used = (n * header::plane_cells(header.shape, k)) as usize;
+    let used = (n * span) as usize;
     if c < used {
         return NONE;
     }
-    let rule = rule_of(header, k);
-    carry(rule, t[k * ROW + (c - used)]) + charge(header, k, n)
+    figure::carried(rule, t[k * ROW + (c - used)]) + figure::charge(header, k, n)
 }
 
 // The preferred count of layer k's planes among those that give the least that the first k + 1 layers can stand at in c cells.
-fn preferred(t: &[u64], header: Header, k: usize, c: usize) -> u64
-    requires { ⌜ (O.right header ≡ true) × (k < layersMost) × (c < T.rowLength) ⌝ }
+fn preferred(t: &[u64], header: Header, k: usize, span: u64, c: usize) -> u64
+    requires { ⌜ (O.right header ≡ true) × (k < layersMost) × (span ≡ Hd.cellsAt (header .shape) k) × (c < T.rowLength) ⌝ }
     requires { ⌜ T.Rows (T.layersOf header) (now t) layersMost ⌝ }
     requires { ⌜ T.best (T.layersOf header) (suc k) c < T.none ⌝ }
     ensures { λ r. ⌜ T.Preferred (T.layersOf header) k c r ⌝ }
 {
     let counts = header.planes;
     let top = counts[k];
+    let rule = figure::rule_of(header, k);
     let least = t[(k + 1) * ROW + c];
     for n in 0..top {
-        if choice_at(t, header, k, c, n) == least {
+        if choice_at(t, header, k, rule, span, c, n) == least {
             return n;
         }
     }
@@ -111,14 +110,15 @@ fn trace(t: &[u64], header: Header, size: usize) -> [u64; MOST_LAYERS]
     requires { ⌜ T.best (T.layersOf header) layersMost size < T.none ⌝ }
     ensures { λ r. ⌜ T.Traced (T.layersOf header) layersMost size (N.counts r) ⌝ }
 {
+    let spans = header.spans();
     let mut planes = [0u64; MOST_LAYERS];
     let mut c = size;
     let mut k = MOST_LAYERS;
     while 0 < k {
         k -= 1;
-        let n = preferred(t, header, k, c);
+        let n = preferred(t, header, k, spans[k], c);
         planes[k] = n;
-        c -= (n * header::plane_cells(header.shape, k)) as usize;
+        c -= (n * spans[k]) as usize;
     }
     planes
 }
@@ -129,15 +129,15 @@ fn plan_in(t: &[u64], header: Header, size: usize) -> Planned
     requires { ⌜ T.Rows (T.layersOf header) (now t) layersMost ⌝ }
     requires { ⌜ T.best (T.layersOf header) layersMost size < T.none ⌝ }
     ensures { λ r. ⌜ T.Traced (T.layersOf header) layersMost size (N.counts (r .plan .planes)) ⌝ }
-    ensures { λ r. ⌜ (R.detailsOf (r .refusal) ≡ R.refusal 0 0 0) × (r .cells ≡ size) × (r .figure ≡ header .step + T.best (T.layersOf header) layersMost size) ⌝ }
+    ensures { λ r. ⌜ (R.detailsOf (r .refusal) ≡ R.refusal 0 0 0) × (r .cells ≡ size) × (r .figure ≡ F.boundOf header (r .plan)) ⌝ }
 {
     let planes = trace(t, header, size);
-    let figure = header.step + t[MOST_LAYERS * ROW + size];
+    let plan = Plan { planes };
     Planned {
         refusal: Refusal::Accepted,
-        plan: Plan { planes },
+        plan,
         cells: size as u64,
-        figure,
+        figure: figure::error_bound(header, plan),
     }
 }
 
@@ -147,7 +147,8 @@ pub(crate) fn search_by_limit(header: Header, limit: u64) -> Planned
     ensures { λ r. ⌜ N.told r ≡ N.found header (N.bestByLimit header limit) ⌝ }
 {
     let mut t = [NONE; TABLE];
-    fill(&mut t, header);
+    let mut held = [NONE; ROW];
+    fill(&mut t, &mut held, header);
     let room = room_of(header.step, limit);
     let size = first_within(&t, room);
     plan_in(&t, header, size)
@@ -159,7 +160,8 @@ pub(crate) fn search_by_cells(header: Header, most: u64) -> Planned
     ensures { λ r. ⌜ N.told r ≡ N.found header (N.bestByCells header most) ⌝ }
 {
     let mut t = [NONE; TABLE];
-    fill(&mut t, header);
+    let mut held = [NONE; ROW];
+    fill(&mut t, &mut held, header);
     let top = row_end(most);
     let size = least_within(&t, top);
     plan_in(&t, header, size)

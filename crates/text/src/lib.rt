@@ -1,10 +1,17 @@
-// Decimal numbers and lines of text, read strictly and written in one way. Nothing here can wrap, whatever the text.
+// Decimal numbers, lists of them and lines of text, read strictly and written in one way. Nothing here can wrap, whatever the text.
 ghost use mathlib.Core.Path.{_≡_};
 ghost use Prim.Native.Nat.{_+_};
 ghost use lib.ListN.{drop};
 ghost use Rattle.text.specs.Decimal as D;
 ghost use Rattle.text.specs.Line as L;
 ghost use Rattle.text.specs.Text as T;
+
+mod joined;
+
+pub use joined::characters;
+pub use joined::put_joined;
+pub use joined::put_number;
+pub use joined::read_joined;
 
 // The characters of the largest u64.
 pub const MOST_CHARACTERS: usize = 20;
@@ -20,12 +27,6 @@ pub enum Line {
     Short,
     Wrong,
     Number { value: u64, length: usize },
-}
-
-// The characters of a number: the first `length` of the bytes; zeros follow.
-pub struct Decimal {
-    pub bytes: [u8; MOST_CHARACTERS],
-    pub length: usize,
 }
 
 // One character more behind v, where the number may be at most high. Compared before it is multiplied.
@@ -83,25 +84,6 @@ pub fn parse(s: &[u8], low: u64, high: u64) -> Number
         return Number::Value(v);
     }
     Number::Wrong
-}
-
-// The characters of n.
-pub fn to_decimal(n: u64) -> Decimal
-    ensures { λ r. ⌜ r ≡ D.decimalOf n ⌝ }
-{
-    if n < 10 {
-        let mut bytes = [0u8; MOST_CHARACTERS];
-        bytes[0] = b'0' + n as u8;
-        return Decimal { bytes, length: 1 };
-    }
-    let front = to_decimal(n / 10);
-    let mut bytes = front.bytes;
-    let at = front.length;
-    bytes[at] = b'0' + (n % 10) as u8;
-    Decimal {
-        bytes,
-        length: at + 1,
-    }
 }
 
 // Puts bytes at a place and answers the place after them. Where they do not fit, nothing is put and the place stays.

@@ -5,9 +5,9 @@ use Prim.Native.Nat.{ℕ, _+_, _-_, _≤_}
 use native.Mathlib.Omega.{arith}
 use lib.ListN.{length, replicate, length-append, drop-of-length-le}
 use lib.Seq.{sets, sets-eq}
-use Rattle.layers.specs.Limits.{layersMost}
+use Rattle.sheet.specs.Limits.{layersMost}
 use Rattle.header.specs.declared.Details.{Details}
-use Rattle.header.proofs.Stores.{sets-sets}
+use Rattle.text.proofs.Stores.{sets-sets}
 use Rattle.trace_card.specs.Boundary.{answerLength, planAt, numbers}
 
 -- a run as long as the slice is what stands there

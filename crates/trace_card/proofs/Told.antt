@@ -5,10 +5,10 @@ use mathlib.Core.Path.{_≡_, ap, _∙_}
 use Prim.Native.Nat.{ℕ}
 use lib.Dec.{eqb}
 use lib.IntN.{ℤ}
-use Rattle.header.specs.declared.Bounded.{Bounded}
+use Rattle.figure.specs.declared.Bounded.{Bounded}
 use Rattle.header.specs.declared.Details.{Details}
 use Rattle.header.specs.Refusals.{detailsOf}
-use Rattle.header.specs.Figure.{toldBound}
+use Rattle.figure.specs.Figure.{toldBound}
 use Rattle.card.specs.declared.Reached.{Reached}
 use Rattle.card.specs.declared.Written.{Written}
 use Rattle.card.specs.Reading as R

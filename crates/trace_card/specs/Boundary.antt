@@ -5,14 +5,14 @@ use Prim.Native.Nat.{ℕ, _+_, _-_}
 use lib.Dec.{eqb}
 use lib.IntN.{ℤ}
 use lib.ListN.{length, replicate}
-use Rattle.layers.specs.declared.Curve.the-variants.{Linear, Cubic}
-use Rattle.layers.specs.Limits.{layersMost}
-use Rattle.layers.specs.Sheet.{sheetOf}
+use Rattle.sheet.specs.declared.Curve.the-variants.{Linear, Cubic}
+use Rattle.sheet.specs.Limits.{layersMost}
+use Rattle.sheet.specs.Sheet.{sheetOf}
 use Rattle.header.specs.declared.Details.{Details}
 use Rattle.header.specs.declared.Plan.{Plan}
 use Rattle.header.specs.Refusals.{refusal}
 use Rattle.header.specs.Plan.{noPlan}
-use Rattle.header.specs.Figure.{Bounding, bounding}
+use Rattle.figure.specs.Figure.{Bounding, bounding}
 use Rattle.card.specs.Writing.{Writing, writing, badSizes}
 use Rattle.card.specs.Writing as W
 use Rattle.card.specs.Reading.{Reading, reading, showing}

@@ -3,12 +3,12 @@ ghost use mathlib.Core.Path.{_≡_};
 ghost use Prim.Native.Nat.{_+_, _≤_};
 ghost use lib.ListN.{length};
 ghost use lib.Seq.{sets};
-ghost use Rattle.layers.specs.Limits.{layersMost};
+ghost use Rattle.sheet.specs.Limits.{layersMost};
 ghost use Rattle.trace_card.specs.Boundary as B;
 use crate::ANSWER;
 use header::Details;
 use header::Plan;
-use layers::MOST_LAYERS;
+use sheet::MOST_LAYERS;
 
 // Where the plan stands in an answer, and where the numbers that stay 0 begin.
 const PLAN_AT: usize = 5;

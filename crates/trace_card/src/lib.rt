@@ -1,6 +1,6 @@
 // The C boundary: the calls with numbers and slices alone, as include/trace_card.h has them.
 mod answer;
-mod figure;
+mod bounding;
 mod planning;
 mod reading;
 mod writing;

@@ -7,7 +7,7 @@ use crate::ANSWER;
 use crate::answer::plan_from;
 use crate::answer::put_answer;
 use card::Reached;
-use layers::MOST_LAYERS;
+use sheet::MOST_LAYERS;
 
 // Fills the answer of a call that reaches a plan.
 fn put_reached(answer: &mut [u64], reached: Reached) -> u64

@@ -9,14 +9,14 @@ use crate::answer::put_answer;
 use card::Written;
 use header::Plan;
 use header::Refusal;
-use layers::Curve;
-use layers::MOST_LAYERS;
+use sheet::Curve;
+use sheet::MOST_LAYERS;
 
 // The refusal of a curve that is none: a wrong size still comes first.
 fn no_curve(rows: usize, cols: usize) -> Refusal
     ensures { λ r. ⌜ detailsOf r ≡ cond (W.badSizes rows cols) (refusal 1 0 0) (refusal 2 0 0) ⌝ }
 {
-    if layers::sized(1, rows, cols) {
+    if sheet::sized(1, rows, cols) {
         return Refusal::BadSettings;
     }
     Refusal::BadSize

@@ -1,23 +1,21 @@
--- The layer, then its next plane, then the coefficients: each test is refused in turn, and past all of them the next plane is in the bytes.
-use mathlib.Core.Bool.{true}
+-- The layer, then its next plane: each test is refused in turn, and past them the next plane is there; what adding it answers, finished, is the refinement.
 use mathlib.Core.List.{List}
-use mathlib.Core.Path.{_≡_, sym, ap, _∙_}
+use mathlib.Core.Path.{_≡_, ap, _∙_}
 use native.Mathlib.Omega.{arith}
 use Prim.Native.Nat.{ℕ, _<_}
 use borrow.Author.Needs.{needs}
-use borrow.Author.Tests.{not-true, not-false}
 use denote.Ref.{now}
 use lib.IntN.{ℤ}
-use Rattle.layers.specs.Limits.{layersMost}
-use Rattle.layers.specs.Sheet.{layers}
-use Rattle.layers.proofs.Accepting.{count-is}
+use Rattle.sheet.specs.Limits.{layersMost}
+use Rattle.sheet.specs.Sheet.{layers}
+use Rattle.sheet.proofs.Accepting.{count-is}
 use Rattle.header.specs.declared.Plan.{Plan}
+use Rattle.header.specs.Header.{planesOf}
 use Rattle.header.specs.Plan.{loads}
 use Rattle.header.proofs.Rightness.{Right, right-yes, layers-few}
 use Rattle.card.specs.declared.Reached.{Reached}
 use Rattle.card.specs.Reading.{wholeOf, told}
-use Rattle.card.specs.Refining.{allHeld}
-use Rattle.card.proofs.RefineCall.{refine-past, refine-none, refine-held, refine-next, next-named, next-there}
+use Rattle.card.proofs.RefineCall.{refine-past, refine-none, next-named, added-refine}
 use Rattle.card.proofs.refining.refine_layer.Statement.{statement}
 use Rattle.card.proofs.refining.refine_layer.Tie as tie
 
@@ -87,59 +85,63 @@ returns-2 c =
     ap (λ (r : Reached). told r (Qs s) (Vs s)) (c .refused2 .ensures)
     ∙ refine-none (Qs s) (Vs s) (Bs s) (s .args .header) (s .args .at) (s .args .plan) (s .args .layer) (layer-low y) (omega (arith, limit-is s, c .before .if2 .taken))
 
-all-held-requires : tie.Need-all-held-requires
-all-held-requires c κs = search needs
+abbrev E : tie.After-counts → tie.Else2
+E c = c .before
 
-refused-requires-3 : tie.Need-refused-requires-3
-refused-requires-3 c κs = search needs
+abbrev A : tie.After-counts → tie.Start
+A c = S (E c .before .before)
+
+few : (c : tie.After-counts) → A c .args .layer < layersMost
+few c = layer-few (E c .before)
+
+named : (c : tie.After-counts) → loads (A c .args .plan) (A c .args .layer) < planesOf (A c .args .header) (A c .args .layer)
+named c =
+    let s = A c in
+    next-named (s .args .header) (s .pre .0 .0) (s .args .at) (Bs s) (s .args .plan) (s .args .layer) (s .pre .0 .1) (layer-low (E c .before)) (more (E c))
+
+mul-p : tie.Need-mul-p
+mul-p c = omega (arith, few c)
+
+array-read-p : tie.Need-array-read-p
+array-read-p c = few c
+
+mul-p-2 : tie.Need-mul-p-2
+mul-p-2 c = omega (arith, few c)
+
+array-read-p-2 : tie.Need-array-read-p-2
+array-read-p-2 c = few c
+
+sub-p : tie.Need-sub-p
+sub-p c = omega (arith, named c)
+
+sub-p-2 : tie.Need-sub-p-2
+sub-p-2 c = omega (arith, named c)
+
+add-plane-requires : tie.Need-add-plane-requires
+add-plane-requires c κs = search needs
+
+with-plane-requires : tie.Need-with-plane-requires
+with-plane-requires c κs = search needs
+
+finish-requires : tie.Need-finish-requires
+finish-requires c κs = search needs
 
 same-length : tie.Need-same-length
 same-length c = search needs
 
-returns-3 : tie.Need-returns-3
-returns-3 c =
-    let a = c .before .before in
-    let m = a .before .before in
-    let y = m .before in
-    let s = S (y .before) in
-    ap (λ (r : Reached). told r (Qs s) (Vs s)) (c .refused3 .ensures)
-    ∙ refine-held (Qs s) (Vs s) (Bs s) (s .args .header) (s .args .at) (s .args .plan) (s .args .layer) (layer-low y) (more m) (sym (a .all-held .ensures) ∙ not-true (a .all-held .result) (c .before .if3 .taken))
-
--- past all tests
-abbrev M : tie.Else3 → tie.Else2
-M z = z .before .before .before
-
-held : (z : tie.Else3) → allHeld (Qs (S (M z .before .before))) ≡ true
-held z = sym (z .before .all-held .ensures) ∙ not-false (z .before .all-held .result) (z .if3 .left)
-
-refine-plane-requires : tie.Need-refine-plane-requires
-refine-plane-requires c κs =
-    let z = c .before .before in
-    let m = M z in
-    let low = layer-low (m .before) in
-    let s = S (m .before .before) in
-    let h = s .args .header in (
-      (s .pre .0 .0, s .pre .0 .1, low, s .pre .1 .0),
-      (
-        (s .pre .1 .1, next-named h (s .pre .0 .0) (s .args .at) (Bs s) (s .args .plan) (s .args .layer) (s .pre .0 .1) low (more m), held z),
-        next-there h (s .pre .0 .0) (s .args .at) (Bs s) (s .args .plan) (s .args .layer) (s .pre .0 .1) low (more m),
-      ),
-    )
-
 same-length-2 : tie.Need-same-length-2
 same-length-2 c = search needs
 
-same-length-3 : tie.Need-same-length-3
-same-length-3 c = search needs
-
-returns-4 : tie.Need-returns-4
-returns-4 c =
-    let d = c .before .before in
-    let z = d .before .before .before in
-    let m = M z in
-    let s = S (m .before .before) in
-    d .refine-plane .ensures
-    ∙ refine-next (Qs s) (Vs s) (Bs s) (s .args .header) (s .args .at) (s .args .plan) (s .args .layer) (layer-low (m .before)) (more m) (held z)
+returns-3 : tie.Need-returns-3
+returns-3 c =
+    let f = c .before in
+    let w = f .before .before .before in
+    let a = w .before .before in
+    let n = a .before .before in
+    let s = A n in
+    f .finish .ensures
+    ∙ added-refine (s .args .header) (s .pre .0 .0) (s .args .at) (Bs s) (s .args .plan) (s .args .layer) (s .pre .0 .1) (layer-low (E n .before)) (more (E n)) (Qs s) (Vs s) (s .pre .1 .0) (s .pre .1 .1)
+    (a .add-plane .result) _ _ _ (omega arith) (a .add-plane .ensures) (w .with-plane .ensures)
 
 pub refine-layer-spec : {M : Type 1} → statement M
 refine-layer-spec =
@@ -154,11 +156,15 @@ refine-layer-spec =
     array-read-if2-2
     refused-requires-2
     returns-2
-    all-held-requires
-    refused-requires-3
+    mul-p
+    array-read-p
+    mul-p-2
+    array-read-p-2
+    sub-p
+    sub-p-2
+    add-plane-requires
+    with-plane-requires
+    finish-requires
     same-length
-    returns-3
-    refine-plane-requires
     same-length-2
-    same-length-3
-    returns-4)
+    returns-3)

@@ -10,7 +10,8 @@ use Rattle.header.proofs.Refusing.{refusing}
 use Rattle.card.specs.declared.Reached.{Reached}
 use Rattle.card.specs.Reading.{wholeOf, firstRefusal, told}
 use Rattle.card.specs.Refining.{refineOpened}
-use Rattle.card.proofs.ReadCall.{plan-within, whole-here, checked-is, checked-yes, goes-on, stops}
+use Rattle.loading.proofs.Loads.{plan-within}
+use Rattle.card.proofs.ReadCall.{whole-here, checked-is, checked-yes, goes-on, stops}
 use Rattle.card.proofs.refining.refine_opened.Statement.{statement}
 use Rattle.card.proofs.refining.refine_opened.Tie as tie
 

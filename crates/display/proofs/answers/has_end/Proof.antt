@@ -3,8 +3,7 @@ use mathlib.Core.Path.{_≡_}
 use native.Mathlib.Omega.{arith}
 use borrow.Author.Needs.{needs}
 use denote.Ref.{now}
-use Rattle.text.specs.Line.{newline, before}
-use Rattle.display.specs.Shown.{hasEnd}
+use Rattle.text.specs.Line.{newline, before, hasEnd}
 use Rattle.display.proofs.answers.has_end.Statement.{statement}
 use Rattle.display.proofs.answers.has_end.Tie as tie
 

@@ -8,13 +8,14 @@ use lib.Seq.{getD-take}
 use mir.Syntax.{w64}
 use mir.Val.{Fits}
 use borrow.Author.Needs.{needs}
-use Rattle.layers.specs.Limits.{layersMost}
+use Rattle.sheet.specs.Limits.{layersMost}
 use Rattle.text.specs.Decimal.{charactersMost}
 use Rattle.text.specs.Line.{newline}
+use Rattle.text.specs.Joined.{joined}
 use Rattle.text.proofs.Digits.{length-most}
-use Rattle.header.specs.Header.{asciiFrom, ascii, listText}
-use Rattle.header.proofs.ListText.{list-length}
-use Rattle.layers.proofs.LayerCounts.{count-some, count-few, count-take}
+use Rattle.text.proofs.Joins.{joined-length}
+use Rattle.header.specs.Header.{asciiFrom, ascii}
+use Rattle.sheet.proofs.LayerCounts.{count-few, count-take}
 use Rattle.display.specs.Shown.{pieceMost, loadedText}
 use Rattle.display.proofs.Behind.{long, extended-more, holds}
 use Rattle.display.proofs.pieces.loaded_line.Statement.{statement}
@@ -26,13 +27,13 @@ full s = search needs
 number : (s : tie.Start) (k : ℕ) → getD (s .args .plan .planes) k 0 < 2 ^ 64
 number s k = let f : Fits w64 (getD (s .args .plan .planes) k 0) = search needs in f .fits
 
-list-most : (s : tie.Start) (n : ℕ) → n ≤ layersMost → length (listText (take n (s .args .plan .planes))) ≤ (charactersMost + 1) * layersMost
+list-most : (s : tie.Start) (n : ℕ) → n ≤ layersMost → length (joined (take n (s .args .plan .planes))) ≤ (charactersMost + 1) * layersMost
 list-most s n h =
     let counts = s .args .plan .planes in
     omega (
       arith,
       length-take n counts,
-      list-length charactersMost (take n counts) (λ i l. rw (getD-take n counts i 0 (omega (arith, length-take n counts))) (length-most (getD counts i 0) (number s i))),
+      joined-length charactersMost (take n counts) (λ i l. rw (getD-take n counts i 0 (omega (arith, length-take n counts))) (length-most (getD counts i 0) (number s i))),
     )
 
 nothing-requires : tie.Need-nothing-requires
@@ -51,8 +52,9 @@ with-list-requires : tie.Need-with-list-requires
 with-list-requires c κs =
     let t = c .before in
     let n = t .before .before in
-    let sh = n .before .before .args .shape in
-    rw (c .layer-count .ensures) (omega (arith, long (t .with-text .ensures), long (n .nothing .ensures)), count-some sh, count-few sh)
+    let s = n .before .before in
+    let few : c .layer-count .result ≤ layersMost = omega (arith, c .layer-count .ensures, count-few (s .args .shape)) in
+    (few, omega (arith, long (t .with-text .ensures), long (n .nothing .ensures), list-most s (c .layer-count .result) few))
 
 -- the end is within the piece
 ends : (c : tie.After-with-list) → c .with-list .result .length + 1 ≤ pieceMost
@@ -78,7 +80,7 @@ returns c =
     let n = t .before .before in
     let s = n .before .before in
     let key = ascii "loaded=" in
-    let counts = listText (take (k .layer-count .result) (s .args .plan .planes)) in
+    let counts = joined (take (k .layer-count .result) (s .args .plan .planes)) in
     let start = n .nothing .result in
     rw (← count-take (s .args .shape) (s .args .plan .planes) (full s), ← k .layer-count .ensures)
     (holds (key ++ counts ++ newline ∷ []) (n .nothing .ensures)

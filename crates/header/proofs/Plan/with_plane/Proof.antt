@@ -6,7 +6,7 @@ use lib.Dec.{ltb}
 use lib.ListN.{set}
 use borrow.Author.Tests.{lt-ltb, le-ltb}
 use borrow.Author.Needs.{needs}
-use Rattle.layers.specs.Limits.{layersMost}
+use Rattle.sheet.specs.Limits.{layersMost}
 use Rattle.integers.proofs.Bools.{and-no-right}
 use Rattle.header.specs.declared.Plan.{Plan}
 use Rattle.header.specs.Plan.{loads, withPlane}

@@ -6,7 +6,7 @@ use Prim.Native.Nat.{ℕ, _-_, _<_}
 use native.Mathlib.Omega.{arith}
 use lib.ListN.{length, take, drop}
 use borrow.Author.Needs.{needs}
-use Rattle.layers.specs.declared.Curve.the-variants.{Linear, Cubic}
+use Rattle.sheet.specs.declared.Curve.the-variants.{Linear, Cubic}
 use Rattle.text.specs.Line.{newline, before}
 use Rattle.text.proofs.Lines.{is-end, past, inside}
 use Rattle.header.specs.Header.{ascii, asciiFrom, curveText}

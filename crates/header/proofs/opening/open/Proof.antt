@@ -2,7 +2,7 @@
 use mathlib.Core.Path.{_≡_, refl, _∙_}
 use native.Mathlib.Omega.{arith}
 use borrow.Author.Needs.{needs}
-use Rattle.layers.specs.Limits.{pointsMost}
+use Rattle.sheet.specs.Limits.{pointsMost}
 use Rattle.text.specs.declared.Line.the-variants.{Number}
 use Rattle.text.specs.Line.{lineAt}
 use Rattle.text.proofs.Lines.{Written, written}

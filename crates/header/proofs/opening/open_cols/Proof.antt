@@ -4,7 +4,7 @@ use Prim.Native.Nat.{_/_}
 use native.Mathlib.Omega.{arith}
 use lib.ListN.{drop}
 use borrow.Author.Needs.{needs}
-use Rattle.layers.specs.Limits.{pointsMost}
+use Rattle.sheet.specs.Limits.{pointsMost}
 use Rattle.text.specs.declared.Line.the-variants.{Number}
 use Rattle.text.specs.Line.{lineAt}
 use Rattle.text.proofs.Lines.{Written, written}

@@ -3,9 +3,9 @@ use mathlib.Core.Path.{_≡_, refl, _∙_}
 use native.Mathlib.Omega.{arith}
 use lib.ListN.{drop}
 use borrow.Author.Needs.{needs}
-use Rattle.layers.specs.Limits.{levelsMost}
-use Rattle.layers.specs.Sheet.{sheetOf}
-use Rattle.layers.proofs.Accepting.{Sheet, accepted-by}
+use Rattle.sheet.specs.Limits.{levelsMost}
+use Rattle.sheet.specs.Sheet.{sheetOf}
+use Rattle.sheet.proofs.Accepting.{Sheet, accepted-by}
 use Rattle.text.specs.declared.Line.the-variants.{Number}
 use Rattle.text.specs.Line.{lineAt}
 use Rattle.text.proofs.Lines.{Written, written}

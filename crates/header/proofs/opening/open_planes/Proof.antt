@@ -1,19 +1,29 @@
--- By cases on the tests: `find` gives the end of the line, `starts_with` its key and `read_counts` its counts, which are the parts of the line. Each count is at
+-- By cases on the tests: `find` gives the end of the line, `starts_with` its key and `read_joined` its counts, which are the parts of the line. Each count is at
 -- most `placesMost`, so the cells fit.
 use mathlib.Core.Bool.{true}
-use mathlib.Core.List.{List}
-use mathlib.Core.Path.{_≡_, refl, _∙_}
+use mathlib.Core.List.{List, _++_}
+use mathlib.Core.Path.{_≡_, refl, sym, ap, _∙_}
 use Prim.Native.Nat.{ℕ, _-_, _≤_}
 use native.Mathlib.Omega.{arith}
-use lib.ListN.{length, take, drop, getD}
+use lib.ListN.{length, take, drop, length-take}
 use borrow.Author.Tests.{not-true, not-false}
 use borrow.Author.Needs.{needs}
+use Rattle.sheet.specs.declared.Shape.{Shape}
+use Rattle.sheet.specs.Limits.{layersMost}
+use Rattle.sheet.specs.Lists.{tabulate}
+use Rattle.sheet.specs.Sheet.{layers}
+use Rattle.sheet.proofs.Accepting.{accepted-yes, layers-few, count-is}
+use Rattle.sheet.proofs.Lists.{length-tabulate}
 use Rattle.text.specs.Line.{starts}
+use Rattle.text.proofs.Lines.{tail}
 use Rattle.text.proofs.Search.{starts-length}
-use Rattle.header.specs.Header.{placesMost, ascii, asciiFrom}
-use Rattle.header.proofs.Total.{cells-most}
+use Rattle.header.specs.Header.{ascii, asciiFrom, spansOf, cellsOf, cellsBy}
+use Rattle.header.specs.Opening.{planesMost, limitsBy}
+use Rattle.header.proofs.Total.{cells-most, span-most}
+use Rattle.header.proofs.Cells.{cells-by}
+use Rattle.header.proofs.Rightness.{limits-by}
 use Rattle.header.proofs.Taking.{starts-as}
-use Rattle.header.proofs.Counting.{counts-few, planes-short, planes-other, planes-wrong, planes-right}
+use Rattle.header.proofs.Counting.{Kept, kept, kept-few, not-read, planes-short, planes-other, planes-wrong, planes-right}
 use Rattle.header.proofs.opening.open_planes.Statement.{statement}
 use Rattle.header.proofs.opening.open_planes.Tie as tie
 
@@ -25,6 +35,12 @@ bs f = A f .args .bytes .now
 
 abbrev at : tie.After-find → ℕ
 at f = A f .args .at
+
+abbrev sh : tie.After-find → Shape
+sh f = A f .args .shape
+
+few : (f : tie.After-find) → layers (sh f) ≤ layersMost
+few f = layers-few (sh f) (accepted-yes (sh f) (A f .pre))
 
 -- the line
 abbrev E : tie.After-starts-with → tie.Else1
@@ -44,18 +60,44 @@ long : (e : tie.Else2) → 7 ≤ length (line (e .before))
 unfolding asciiFrom
 long e = omega (arith, starts-length (ascii "planes=") (line (e .before)) (starts-yes e))
 
+-- the layers
+abbrev K : tie.After-layer-count → tie.Else2
+K n = n .before .before .before
+
+abbrev F : tie.After-layer-count → tie.After-find
+F n = E (K n .before) .before
+
+spans-are : (n : tie.After-layer-count) → n .before .before .spans-of .result ≡ spansOf (sh (F n))
+spans-are n = n .before .before .spans-of .ensures
+
+limits-are : (n : tie.After-layer-count) → n .before .limits .result ≡ tabulate layersMost (planesMost (sh (F n)))
+limits-are n = n .before .limits .ensures ∙ ap limitsBy (spans-are n) ∙ limits-by (sh (F n)) (A (F n) .pre)
+
+all : (n : tie.After-layer-count) → n .layer-count .result ≡ layers (sh (F n))
+all n = n .layer-count .ensures ∙ count-is (sh (F n)) (A (F n) .pre)
+
+room : (n : tie.After-layer-count) → n .layer-count .result ≤ length (n .before .limits .result)
+room n = omega (arith, all n, few (F n), ap length (limits-are n), length-tabulate layersMost (planesMost (sh (F n))))
+
 -- the counts
-abbrev K : tie.After-struct-known → tie.After-read-counts
-K s = s .before
+abbrev N : tie.After-read-joined → tie.After-layer-count
+N r = r .before .before .before
 
-abbrev L : tie.After-read-counts → tie.Else2
-L r = r .before .before
+abbrev text : tie.After-read-joined → List ℕ
+text r = let l = line (K (N r) .before) in take (length l - 7) (drop 7 l)
 
-abbrev F : tie.After-read-counts → tie.After-find
-F r = E (L r .before) .before
+behind : (r : tie.After-read-joined) → text r ≡ drop (length (ascii "planes=")) (line (K (N r) .before))
+unfolding asciiFrom
+behind r = tail 7 (line (K (N r) .before))
 
-few : (r : tie.After-read-counts) (i : ℕ) → getD (r .read-counts .result .planes) i 0 ≤ placesMost
-few r = rw (r .read-counts .ensures) (counts-few (A (F r) .args .shape) _)
+abbrev planes : tie.After-read-joined → List ℕ
+planes r = r .read-joined .last .1 .0 ++ drop (N r .layer-count .result) (N r .before .limits .result)
+
+stored : (e : tie.Else3) → (let r = e .before .before in Kept (sh (F (N r))) (text r) (planes r))
+stored e =
+    let r = e .before .before in
+    let n = N r in
+    kept (sh (F n)) (few (F n)) (n .layer-count .result) (all n) (n .before .limits .result) (limits-are n) (text r) (r .read-joined .last .1 .0) (r .read-joined .ensures .1) (sym (not-false _ (e .if3 .left)) ∙ r .read-joined .ensures .0)
 
 find-requires : tie.Need-find-requires
 find-requires c κs = search needs
@@ -66,7 +108,7 @@ refused-requires c κs = search needs
 returns : tie.Need-returns
 returns c =
     let f = c .before .before in
-    rw (planes-short (bs f) (A f .args .shape) (A f .args .curve) (A f .args .step) (at f) (f .find .result) (f .find .ensures) (c .before .if1 .taken), c .refused .ensures)
+    rw (planes-short (bs f) (sh f) (A f .args .curve) (A f .args .step) (at f) (f .find .result) (f .find .ensures) (c .before .if1 .taken), c .refused .ensures)
 
 sub-line : tie.Need-sub-line
 sub-line c = search needs
@@ -91,51 +133,78 @@ returns-2 c =
     let t = c .before .before in
     let e = E t in
     let f = e .before in
-    rw (planes-other (bs f) (A f .args .shape) (A f .args .curve) (A f .args .step) (at f) (f .find .result) (f .find .ensures) (e .if1 .left) (starts-is t ∙ not-true _ (c .before .if2 .taken)), c .refused2 .ensures)
+    rw (planes-other (bs f) (sh f) (A f .args .curve) (A f .args .step) (at f) (f .find .result) (f .find .ensures) (e .if1 .left) (starts-is t ∙ not-true _ (c .before .if2 .taken)), c .refused2 .ensures)
 
-sub-read-counts : tie.Need-sub-read-counts
-sub-read-counts c = long c
+spans-of-requires : tie.Need-spans-of-requires
+spans-of-requires c κs = search needs
 
-part-read-counts-start : tie.Need-part-read-counts-start
-part-read-counts-start c = long c
+limits-requires : tie.Need-limits-requires
+limits-requires c κs = search needs
 
-part-read-counts-end : tie.Need-part-read-counts-end
-part-read-counts-end c = search needs
+layer-count-requires : tie.Need-layer-count-requires
+layer-count-requires c κs = search needs
 
-read-counts-requires : tie.Need-read-counts-requires
-read-counts-requires c κs = search needs
+sub-read-joined : tie.Need-sub-read-joined
+sub-read-joined c = long (K c)
+
+part-read-joined-start : tie.Need-part-read-joined-start
+part-read-joined-start c = long (K c)
+
+part-read-joined-end : tie.Need-part-read-joined-end
+part-read-joined-end c = search needs
+
+array-borrow-prefix-planes : tie.Need-array-borrow-prefix-planes
+array-borrow-prefix-planes c = room (c .before)
+
+slice-aggregate-read-joined : tie.Need-slice-aggregate-read-joined
+slice-aggregate-read-joined c = let n = c .before .before in omega (arith, length-take (n .layer-count .result) (n .before .limits .result), room n)
+
+read-joined-requires : tie.Need-read-joined-requires
+read-joined-requires c κs = search needs
 
 refused-requires-3 : tie.Need-refused-requires-3
 refused-requires-3 c κs = search needs
 
 returns-3 : tie.Need-returns-3
-unfolding asciiFrom
 returns-3 c =
-    let r = K (c .before .before) in
-    let f = F r in
-    rw (planes-wrong (bs f) (A f .args .shape) (A f .args .curve) (A f .args .step) (at f) (f .find .result) (f .find .ensures) (E (L r .before) .if1 .left) (starts-yes (L r)) _ refl (r .read-counts .result) (r .read-counts .ensures) (not-true _ (c .before .if3 .taken)), c .refused3 .ensures)
+    let t = c .before in
+    let r = t .before .before in
+    let n = N r in
+    let f = F n in
+    let none-are = not-read (sh f) (few f) (n .layer-count .result) (all n) (n .before .limits .result) (limits-are n) (text r) (sym (not-true _ (t .if3 .taken)) ∙ r .read-joined .ensures .0) in
+    rw (planes-wrong (bs f) (sh f) (A f .args .curve) (A f .args .step) (at f) (f .find .result) (f .find .ensures) (E (K n .before) .if1 .left) (starts-yes (K n)) (text r) (behind r) none-are, c .refused3 .ensures)
 
 cells-of-requires : tie.Need-cells-of-requires
 cells-of-requires c κs =
-    let r = K (c .before .before) in
-    (A (F r) .pre, few r)
+    let n = N (c .before .before) in
+    let f = F n in
+    λ k. (rw (spans-are n) (span-most (sh f) k), kept-few (few f) (stored c) k)
+
+-- the cells that they name
+named : (m : tie.After-cells-of) → (let r = m .before .before .before in m .cells-of .result ≡ cellsOf (sh (F (N r))) (planes r))
+named m =
+    let r = m .before .before .before in
+    let f = F (N r) in
+    m .cells-of .ensures ∙ ap (λ (spans : List ℕ). cellsBy spans (planes r)) (spans-are (N r)) ∙ cells-by (sh f) (A f .pre) (planes r)
 
 add-open-cells : tie.Need-add-open-cells
 add-open-cells c = search needs
 
 open-cells-requires : tie.Need-open-cells-requires
 open-cells-requires c κs =
-    let r = K (c .before .before .before) in
-    omega (arith, c .cells-of .ensures, cells-most (A (F r) .args .shape) (A (F r) .pre) (r .read-counts .result .planes) (λ k _. few r k))
+    let e = c .before in
+    let r = e .before .before in
+    let f = F (N r) in
+    omega (arith, named c, cells-most (sh f) (A f .pre) (planes r) (λ k _. kept-few (few f) (stored e) k))
 
 returns-4 : tie.Need-returns-4
-unfolding asciiFrom
 returns-4 c =
-    let n = c .before in
-    let s = n .before .before in
-    let r = K (s .before) in
-    let f = F r in
-    rw (planes-right (bs f) (A f .args .shape) (A f .args .curve) (A f .args .step) (at f) (f .find .result) (f .find .ensures) (E (L r .before) .if1 .left) (starts-yes (L r)) _ refl (r .read-counts .result) (r .read-counts .ensures) (not-false _ (s .if3 .left)), ← n .cells-of .ensures) (c .open-cells .ensures)
+    let m = c .before in
+    let e = m .before in
+    let r = e .before .before in
+    let n = N r in
+    let f = F n in
+    rw (planes-right (bs f) (sh f) (A f .args .curve) (A f .args .step) (at f) (f .find .result) (f .find .ensures) (E (K n .before) .if1 .left) (starts-yes (K n)) (text r) (behind r) (planes r) (stored e), ← named m) (c .open-cells .ensures)
 
 pub open-planes-spec : {M : Type 1} → statement M
 open-planes-spec =
@@ -151,10 +220,15 @@ open-planes-spec =
     starts-with-requires
     refused-requires-2
     returns-2
-    sub-read-counts
-    part-read-counts-start
-    part-read-counts-end
-    read-counts-requires
+    spans-of-requires
+    limits-requires
+    layer-count-requires
+    sub-read-joined
+    part-read-joined-start
+    part-read-joined-end
+    array-borrow-prefix-planes
+    slice-aggregate-read-joined
+    read-joined-requires
     refused-requires-3
     returns-3
     cells-of-requires

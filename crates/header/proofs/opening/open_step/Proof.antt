@@ -3,7 +3,7 @@ use mathlib.Core.Path.{_≡_, refl, _∙_}
 use native.Mathlib.Omega.{arith}
 use lib.ListN.{drop}
 use borrow.Author.Needs.{needs}
-use Rattle.layers.specs.Limits.{stepMost}
+use Rattle.sheet.specs.Limits.{stepMost}
 use Rattle.text.specs.declared.Line.the-variants.{Number}
 use Rattle.text.specs.Line.{lineAt}
 use Rattle.header.specs.Header.{ascii, asciiFrom}

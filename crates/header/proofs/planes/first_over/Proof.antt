@@ -5,7 +5,7 @@ use native.Mathlib.Nat.{not-suc-le-zero}
 use native.Mathlib.Omega.{arith}
 use lib.ListN.{getD}
 use borrow.Author.Count.{below-more}
-use Rattle.layers.specs.Limits.{layersMost}
+use Rattle.sheet.specs.Limits.{layersMost}
 use Rattle.header.proofs.Over.{none-over, over-first}
 use Rattle.header.proofs.planes.first_over.Statement.{statement}
 use Rattle.header.proofs.planes.first_over.Tie as tie

@@ -1,24 +1,31 @@
 -- The array is filled place by place, each with the most planes of its layer.
-use Prim.Native.Nat.{_≤_, _-_}
+use Prim.Native.Nat.{ℕ, _≤_, _-_}
 use mathlib.Core.Path.{refl}
 use native.Mathlib.Omega.{arith}
-use Rattle.layers.specs.Limits.{layersMost}
-use Rattle.header.specs.Opening.{planesMost}
+use lib.ListN.{getD}
+use Rattle.sheet.specs.Limits.{layersMost}
+use Rattle.header.specs.Opening.{mostBy, limitsBy}
 use Rattle.header.proofs.Fills.{Filled, filled-none, filled-more, filled-all}
 use Rattle.header.proofs.planes.limits.Statement.{statement}
 use Rattle.header.proofs.planes.limits.Tie as tie
 
 abbrev Inv-loop : tie.InvT-loop
-Inv-loop shape most₀ k₀ most k = (k ≤ layersMost) × Filled (planesMost shape) layersMost k most
+Inv-loop spans most₀ k₀ most k = (k ≤ layersMost) × Filled (λ (j : ℕ). mostBy (getD spans j 0)) layersMost k most
 
 abbrev μ-loop : tie.MeasureT-loop
-μ-loop shape most₀ k₀ most k = layersMost - k
+μ-loop spans most₀ k₀ most k = layersMost - k
 
 loop-holds : tie.Need-loop-holds Inv-loop μ-loop
 loop-holds c = (omega arith, filled-none _ _ _ refl)
 
+mul-planes-most : tie.Need-mul-planes-most Inv-loop μ-loop
+mul-planes-most c = omega arith
+
+array-read-planes-most : tie.Need-array-read-planes-most Inv-loop μ-loop
+array-read-planes-most c = omega arith
+
 planes-most-requires : tie.Need-planes-most-requires Inv-loop μ-loop
-planes-most-requires c κs = c .before .before .pre
+planes-most-requires c κs = tt
 
 mul-most : tie.Need-mul-most Inv-loop μ-loop
 mul-most c = omega arith
@@ -36,6 +43,7 @@ loop-again : tie.Need-loop-again Inv-loop μ-loop
 loop-again c = (omega arith, filled-more _ _ _ (c .planes-most .ensures) (c .before .loop-test .taken) (c .before .before .loop .inv .1))
 
 returns : tie.Need-returns Inv-loop μ-loop
+unfolding limitsBy
 returns c = filled-all _ _ (c .loop-test .left) (c .before .loop .inv .1)
 
 pub limits-spec : {M : Type 1} → statement M
@@ -45,6 +53,8 @@ limits-spec =
     Inv-loop
     μ-loop
     loop-holds
+    mul-planes-most
+    array-read-planes-most
     planes-most-requires
     mul-most
     array-write-most

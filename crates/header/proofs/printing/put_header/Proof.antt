@@ -1,22 +1,26 @@
 -- The seven lines in turn, each put behind what stands (`put-more`). All of them fit, so each does: a header of u64 has at most 512 bytes of text.
 use mathlib.Core.List.{List, [], _∷_}
-use mathlib.Core.Path.{_≡_, refl, _∙_}
+use mathlib.Core.Path.{_≡_, refl, sym, _∙_}
 use Prim.Native.Nat.{ℕ, _+_, _≤_, _<_, _^_}
 use native.Mathlib.Omega.{arith}
 use lib.ListN.{length, take, getD, set, length-set}
+use lib.Seq.{sets, length-take-le}
 use mir.Syntax.{w64}
 use mir.Val.{Fits}
 use native.Mathlib.Nat.{le-trans}
 use borrow.Author.Needs.{needs}
-use Rattle.layers.specs.Sheet.{layerCount}
+use Rattle.sheet.specs.Limits.{layersMost}
+use Rattle.sheet.specs.Sheet.{layerCount}
 use Rattle.text.specs.Decimal.{digits}
 use Rattle.text.specs.Line.{newline, lineText}
+use Rattle.text.specs.Joined.{joined}
+use Rattle.text.proofs.Fitting.{put-fits}
 use Rattle.text.proofs.Lines.{line-length}
 use Rattle.header.specs.declared.Header.{Header}
-use Rattle.header.specs.Header.{asciiFrom, curveText, listText, planesOf, headerText}
-use Rattle.layers.proofs.LayerCounts.{count-some, count-few}
+use Rattle.header.specs.Header.{asciiFrom, curveText, ascii, planesOf, headerText}
+use Rattle.sheet.proofs.LayerCounts.{count-few}
 use Rattle.header.proofs.TextLength.{text-length, text-fits}
-use Rattle.header.proofs.Stores.{put-none, put-more, put-run, put-byte, put-all}
+use Rattle.text.proofs.Stores.{put-none, put-more, put-run, put-byte, put-all}
 use Rattle.header.proofs.printing.put_header.Statement.{statement}
 use Rattle.header.proofs.printing.put_header.Tie as tie
 
@@ -33,24 +37,27 @@ A c = c .before .before .before .before .before
 abbrev B : tie.After-put-line3 → tie.After-put-line2
 B c = c .before .before .before .before .before
 
-abbrev C : tie.After-put-bytes → tie.After-put-line3
+abbrev C : tie.After-put → tie.After-put-line3
 C c = c .before .before .before .before .before
 
-abbrev D : tie.After-put-curve → tie.After-put-bytes
+abbrev D : tie.After-put-curve → tie.After-put
 D c = c .before .before .before .before
 
 abbrev E : tie.After-put-line4 → tie.After-put-curve
 E c = c .before .before .before .before .before
 
-abbrev F : tie.After-put-bytes2 → tie.After-put-line4
+abbrev F : tie.After-put2 → tie.After-put-line4
 F c = c .before .before .before .before .before
 
-abbrev G : tie.After-put-list → tie.After-put-bytes2
-G c = c .before .before .before .before .before
+abbrev G : tie.After-put-joined → tie.After-put2
+G c = c .before .before .before .before .before .before
 
 -- ---- room
 number : (s : tie.Start) (k : ℕ) → planesOf (H s) k < 2 ^ 64
 number s k = let f : Fits w64 (getD (H s .planes) k 0) = search needs in f .fits
+
+full : (s : tie.Start) → length (H s .planes) ≡ layersMost
+full s = search needs
 
 room-all : (s : tie.Start) → length (headerText (H s)) ≤ length (s .args .out .now)
 room-all s = le-trans (text-fits (H s) (search needs) (search needs) (search needs) (search needs) (search needs) (λ k _. number s k)) (s .pre)
@@ -76,8 +83,11 @@ module _ (s : tie.Start) where
   abbrev n5 : ℕ
   n5 = n4 + 6 + length (digits (H s .step))
 
+  abbrev counted : List ℕ
+  counted = joined (take (layerCount (H s .shape)) (H s .planes))
+
   abbrev n6 : ℕ
-  n6 = n5 + 8 + length (listText (take (layerCount (H s .shape)) (H s .planes)))
+  n6 = n5 + 8 + length counted
 
   abbrev n7 : ℕ
   n7 = n6 + 7 + length (digits (H s .cells))
@@ -94,8 +104,17 @@ second c = let p = first (A c) in record { ends = omega (arith, p .ends, simp li
 third : (c : tie.After-put-line3) → Upto (S (A (B c))) (c .put-line3 .last .0) (c .put-line3 .result) (n3 (S (A (B c))))
 third c = let p = second (B c) in record { ends = omega (arith, p .ends, simp line-length at (c .put-line3 .ensures .0)); long = c .put-line3 .kept .0 ∙ p .long }
 
-key : (c : tie.After-put-bytes) → Upto (S (A (B (C c)))) (c .put-bytes .last .0) (c .put-bytes .result) (n3 (S (A (B (C c)))) + 6)
-key c = let p = third (C c) in record { ends = omega (arith, p .ends, c .put-bytes .ensures .0); long = c .put-bytes .kept .0 ∙ p .long }
+-- "curve=" is put
+fit-4 : (c : tie.After-put) → (let l = C c in (c .put .result ≡ l .put-line3 .result + 6) × (c .put .last .0 ≡ sets (l .put-line3 .last .0) (l .put-line3 .result) (ascii "curve=")))
+unfolding asciiFrom
+fit-4 c =
+    let l = C c in
+    let p = third l in
+    let f = put-fits (l .put-line3 .last .0) (l .put-line3 .result) (ascii "curve=") (omega (arith, p .ends, p .long, room (S (A (B l))))) in
+    (c .put .ensures .0 ∙ f .0, c .put .ensures .1 ∙ f .1)
+
+key : (c : tie.After-put) → Upto (S (A (B (C c)))) (c .put .last .0) (c .put .result) (n3 (S (A (B (C c)))) + 6)
+key c = let p = third (C c) in record { ends = omega (arith, p .ends, fit-4 c .0); long = c .put .kept .0 ∙ p .long }
 
 fourth : (c : tie.After-put-curve) → Upto (S (A (B (C (D c))))) (set (c .put-curve .last .0) (c .put-curve .result) newline) (c .put-curve .result + 1) (n4 (S (A (B (C (D c))))))
 fourth c = let p = key (D c) in record { ends = omega (arith, p .ends, c .put-curve .ensures .0); long = simp length-set (c .put-curve .kept .0 ∙ p .long) }
@@ -103,11 +122,38 @@ fourth c = let p = key (D c) in record { ends = omega (arith, p .ends, c .put-cu
 fifth : (c : tie.After-put-line4) → Upto (S (A (B (C (D (E c)))))) (c .put-line4 .last .0) (c .put-line4 .result) (n5 (S (A (B (C (D (E c)))))))
 fifth c = let p = fourth (E c) in record { ends = omega (arith, p .ends, simp line-length at (c .put-line4 .ensures .0)); long = c .put-line4 .kept .0 ∙ p .long }
 
-key-2 : (c : tie.After-put-bytes2) → Upto (S (A (B (C (D (E (F c))))))) (c .put-bytes2 .last .0) (c .put-bytes2 .result) (n5 (S (A (B (C (D (E (F c))))))) + 7)
-key-2 c = let p = fifth (F c) in record { ends = omega (arith, p .ends, c .put-bytes2 .ensures .0); long = c .put-bytes2 .kept .0 ∙ p .long }
+-- "planes=" is put
+fit-6 : (c : tie.After-put2) → (let l = F c in (c .put2 .result ≡ l .put-line4 .result + 7) × (c .put2 .last .0 ≡ sets (l .put-line4 .last .0) (l .put-line4 .result) (ascii "planes=")))
+unfolding asciiFrom
+fit-6 c =
+    let l = F c in
+    let p = fifth l in
+    let f = put-fits (l .put-line4 .last .0) (l .put-line4 .result) (ascii "planes=") (omega (arith, p .ends, p .long, room (S (A (B (C (D (E l)))))))) in
+    (c .put2 .ensures .0 ∙ f .0, c .put2 .ensures .1 ∙ f .1)
 
-sixth : (c : tie.After-put-list) → Upto (S (A (B (C (D (E (F (G c)))))))) (set (c .put-list .last .0) (c .put-list .result) newline) (c .put-list .result + 1) (n6 (S (A (B (C (D (E (F (G c)))))))))
-sixth c = let p = key-2 (G c) in record { ends = omega (arith, p .ends, rw (c .before .layer-count .ensures) at (c .put-list .ensures .0)); long = simp length-set (c .put-list .kept .0 ∙ p .long) }
+key-2 : (c : tie.After-put2) → Upto (S (A (B (C (D (E (F c))))))) (c .put2 .last .0) (c .put2 .result) (n5 (S (A (B (C (D (E (F c))))))) + 7)
+key-2 c = let p = fifth (F c) in record { ends = omega (arith, p .ends, fit-6 c .0); long = c .put2 .kept .0 ∙ p .long }
+
+-- and the counts
+abbrev Z : tie.After-put-joined → tie.Start
+Z c = S (A (B (C (D (E (F (G c)))))))
+
+abbrev N : tie.After-put-joined → tie.After-layer-count
+N c = c .before .before .before
+
+fit-list : (c : tie.After-put-joined) → (let l = G c in (c .put-joined .result ≡ l .put2 .result + length (counted (Z c))) × (c .put-joined .last .0 ≡ sets (l .put2 .last .0) (l .put2 .result) (counted (Z c))))
+fit-list c =
+    let l = G c in
+    let p = key-2 l in
+    let f = put-fits (l .put2 .last .0) (l .put2 .result) (counted (Z c)) (omega (arith, p .ends, p .long, room (Z c))) in
+    (rw (N c .layer-count .ensures) at (c .put-joined .ensures .0) ∙ f .0, rw (N c .layer-count .ensures) at (c .put-joined .ensures .1) ∙ f .1)
+
+sixth : (c : tie.After-put-joined) → Upto (Z c) (set (c .put-joined .last .0) (c .put-joined .result) newline) (c .put-joined .result + 1) (n6 (Z c))
+sixth c = let p = key-2 (G c) in record { ends = omega (arith, p .ends, fit-list c .0); long = simp length-set (c .put-joined .kept .0 ∙ p .long) }
+
+-- the planes are enough for the layers
+few : (n : tie.After-layer-count) → n .layer-count .result ≤ length (H (S (A (B (C (D (E (F (n .before .before .before)))))))) .planes)
+few n = let s = S (A (B (C (D (E (F (n .before .before .before))))))) in omega (arith, n .layer-count .ensures, count-few (H s .shape), full s)
 
 slice-aggregate-put-line : tie.Need-slice-aggregate-put-line
 slice-aggregate-put-line c = search needs
@@ -133,14 +179,11 @@ put-line-requires-3 c κs =
     let p = second l in
     simp line-length (omega (arith, p .ends, p .long, room (S (A l))))
 
-slice-aggregate-put-bytes : tie.Need-slice-aggregate-put-bytes
-slice-aggregate-put-bytes c = search needs
+slice-aggregate-put : tie.Need-slice-aggregate-put
+slice-aggregate-put c = search needs
 
-put-bytes-requires : tie.Need-put-bytes-requires
-put-bytes-requires c κs =
-    let l = c .before .before .before .before in
-    let p = third l in
-    omega (arith, p .ends, p .long, room (S (A (B l))))
+put-requires : tie.Need-put-requires
+put-requires c κs = search needs
 
 put-curve-requires : tie.Need-put-curve-requires
 put-curve-requires c κs =
@@ -170,36 +213,35 @@ put-line-requires-4 c κs =
     let p = fourth l in
     simp line-length (omega (arith, p .ends, p .long, room (S (A (B (C (D l)))))))
 
-slice-aggregate-put-bytes-2 : tie.Need-slice-aggregate-put-bytes-2
-slice-aggregate-put-bytes-2 c = search needs
+slice-aggregate-put-2 : tie.Need-slice-aggregate-put-2
+slice-aggregate-put-2 c = search needs
 
-put-bytes-requires-2 : tie.Need-put-bytes-requires-2
-put-bytes-requires-2 c κs =
-    let l = c .before .before .before .before in
-    let p = fifth l in
-    omega (arith, p .ends, p .long, room (S (A (B (C (D (E l)))))))
+put-requires-2 : tie.Need-put-requires-2
+put-requires-2 c κs = search needs
 
 layer-count-requires : tie.Need-layer-count-requires
 layer-count-requires c κs = search needs
 
-put-list-requires : tie.Need-put-list-requires
-put-list-requires c κs =
-    let l = c .before .before .before .before in
-    let p = key-2 l in
-    let s = S (A (B (C (D (E (F l)))))) in
-    rw (c .layer-count .ensures) (count-some (H s .shape), count-few (H s .shape), omega (arith, p .ends, p .long, room s))
+array-share-prefix-planes : tie.Need-array-share-prefix-planes
+array-share-prefix-planes c = few (c .before)
+
+slice-aggregate-put-joined : tie.Need-slice-aggregate-put-joined
+slice-aggregate-put-joined c = let n = c .before .before in sym (length-take-le (n .layer-count .result) _ (few n))
+
+put-joined-requires : tie.Need-put-joined-requires
+put-joined-requires c κs = search needs
 
 slice-write-out-2 : tie.Need-slice-write-out-2
 slice-write-out-2 c =
     let l = c .before .before in
     let p = key-2 (G l) in
-    omega (arith, p .ends, p .long, rw (l .before .layer-count .ensures) at (l .put-list .ensures .0), l .put-list .kept .0, room (S (A (B (C (D (E (F (G l)))))))))
+    omega (arith, p .ends, p .long, fit-list l .0, l .put-joined .kept .0, room (Z l))
 
 add-put-line-2 : tie.Need-add-put-line-2
 add-put-line-2 c =
     let l = c .before .before .before in
     let p = sixth l in
-    let s = S (A (B (C (D (E (F (G l))))))) in
+    let s = Z l in
     omega (arith, p .ends, room s, s .good .0 .0)
 
 slice-aggregate-put-line-5 : tie.Need-slice-aggregate-put-line-5
@@ -209,7 +251,7 @@ put-line-requires-5 : tie.Need-put-line-requires-5
 put-line-requires-5 c κs =
     let l = c .before .before .before .before in
     let p = sixth l in
-    simp line-length (omega (arith, p .ends, p .long, room (S (A (B (C (D (E (F (G l))))))))))
+    simp line-length (omega (arith, p .ends, p .long, room (Z l)))
 
 same-length : tie.Need-same-length
 same-length c = let l = c .before .before in l .put-line5 .kept .0 ∙ sixth (l .before .before .before .before .before) .long
@@ -231,12 +273,11 @@ returns c =
     let p1 = put-more (lineText _ (h .shape .rows)) _ _ (put-none (s .args .out .now) 0) (l1 .put-line .ensures .0) (l1 .put-line .ensures .1) in
     let p2 = put-more (lineText _ (h .shape .cols)) _ _ p1 (l2 .put-line2 .ensures .0) (l2 .put-line2 .ensures .1) in
     let p3 = put-more (lineText _ (h .shape .levels)) _ _ p2 (l3 .put-line3 .ensures .0) (l3 .put-line3 .ensures .1) in
-    let q4 = put-more (_ ∷ _ ∷ _ ∷ _ ∷ _ ∷ _ ∷ []) _ _ (put-none (l3 .put-line3 .last .0) (l3 .put-line3 .result)) (k4 .put-bytes .ensures .0) (k4 .put-bytes .ensures .1) in
+    let q4 = put-more (_ ∷ _ ∷ _ ∷ _ ∷ _ ∷ _ ∷ []) _ _ (put-none (l3 .put-line3 .last .0) (l3 .put-line3 .result)) (fit-4 k4 .0) (fit-4 k4 .1) in
     let p4 = put-run p3 (put-byte _ (put-more (curveText (h .curve)) _ _ q4 (l4 .put-curve .ensures .0) (l4 .put-curve .ensures .1))) in
     let p5 = put-more (lineText _ (h .step)) _ _ p4 (l5 .put-line4 .ensures .0) (l5 .put-line4 .ensures .1) in
-    let q6 = put-more (_ ∷ _ ∷ _ ∷ _ ∷ _ ∷ _ ∷ _ ∷ []) _ _ (put-none (l5 .put-line4 .last .0) (l5 .put-line4 .result)) (k6 .put-bytes2 .ensures .0) (k6 .put-bytes2 .ensures .1) in
-    let list = listText (take (layerCount (h .shape)) (h .planes)) in
-    let p6 = put-run p5 (put-byte _ (put-more list _ _ q6 (rw (l6 .before .layer-count .ensures) at (l6 .put-list .ensures .0)) (rw (l6 .before .layer-count .ensures) at (l6 .put-list .ensures .1)))) in
+    let q6 = put-more (_ ∷ _ ∷ _ ∷ _ ∷ _ ∷ _ ∷ _ ∷ []) _ _ (put-none (l5 .put-line4 .last .0) (l5 .put-line4 .result)) (fit-6 k6 .0) (fit-6 k6 .1) in
+    let p6 = put-run p5 (put-byte _ (put-more (counted s) _ _ q6 (fit-list l6 .0) (fit-list l6 .1))) in
     let p7 = put-more (lineText _ (h .cells)) _ _ p6 (l7 .put-line5 .ensures .0) (l7 .put-line5 .ensures .1) in
     put-all (headerText h) p7 refl
 
@@ -250,17 +291,19 @@ put-header-spec =
     put-line-requires-2
     slice-aggregate-put-line-3
     put-line-requires-3
-    slice-aggregate-put-bytes
-    put-bytes-requires
+    slice-aggregate-put
+    put-requires
     put-curve-requires
     slice-write-out
     add-put-line
     slice-aggregate-put-line-4
     put-line-requires-4
-    slice-aggregate-put-bytes-2
-    put-bytes-requires-2
+    slice-aggregate-put-2
+    put-requires-2
     layer-count-requires
-    put-list-requires
+    array-share-prefix-planes
+    slice-aggregate-put-joined
+    put-joined-requires
     slice-write-out-2
     add-put-line-2
     slice-aggregate-put-line-5

@@ -1,8 +1,8 @@
 -- The numbers are those of a point, which are small.
 use native.Mathlib.Omega.{arith}
 use Rattle.layers.specs.Loops.{columns}
-use Rattle.layers.proofs.Accepting.{accepted-yes}
-use Rattle.layers.proofs.Fits.{Held, held}
+use Rattle.sheet.proofs.Accepting.{accepted-yes}
+use Rattle.sheet.proofs.Fits.{Held, held}
 use Rattle.layers.proofs.Neighbours.{same-crossing}
 use Rattle.layers.proofs.prediction.columns.Statement.{statement}
 use Rattle.layers.proofs.prediction.columns.Tie as tie

@@ -2,11 +2,11 @@
 use mathlib.Core.Path.{_≡_, sym, ap, _∙_}
 use native.Mathlib.Omega.{arith}
 use borrow.Author.Needs.{needs}
-use Rattle.layers.specs.declared.Direction.{Direction}
-use Rattle.layers.specs.declared.Direction.the-variants.{Anchor, Across, Down, Between}
+use Rattle.sheet.specs.declared.Direction.{Direction}
+use Rattle.sheet.specs.declared.Direction.the-variants.{Anchor, Across, Down, Between}
 use Rattle.layers.specs.Loops.{crossingOf}
-use Rattle.layers.proofs.Accepting.{accepted-yes}
-use Rattle.layers.proofs.Fits.{Held, held}
+use Rattle.sheet.proofs.Accepting.{accepted-yes}
+use Rattle.sheet.proofs.Fits.{Held, held}
 use Rattle.layers.proofs.Neighbours.{same-crossing}
 use Rattle.layers.proofs.prediction.crossing.Statement.{statement}
 use Rattle.layers.proofs.prediction.crossing.Tie as tie

@@ -9,15 +9,16 @@ use lib.IntN.{ℤ}
 use denote.Ref.{now}
 use borrow.Author.Needs.{needs}
 use borrow.Author.Tests.{not-true, not-false}
-use Rattle.layers.specs.declared.Shape.{Shape}
-use Rattle.layers.specs.declared.Curve.{Curve}
+use Rattle.sheet.specs.declared.Shape.{Shape}
+use Rattle.sheet.specs.declared.Curve.{Curve}
 use Rattle.layers.specs.declared.Scan.the-variants.{Clear}
 use Rattle.layers.specs.declared.Quantized.the-variants.{Done, OutOfRange}
 use Rattle.layers.specs.Layering.{layering, written, coefs}
 use Rattle.layers.specs.Calls.{settled, Quantizing, quantizable, afterScan, quantizing}
-use Rattle.layers.specs.Loops.{laid}
-use Rattle.layers.proofs.Accepting.{Sheet, accepted-yes}
-use Rattle.layers.proofs.Fits.{lines-small}
+use Rattle.sheet.specs.Lines.{laid}
+use Rattle.sheet.specs.Sheet.{points}
+use Rattle.sheet.proofs.Accepting.{Sheet, accepted-yes, points-in}
+use Rattle.sheet.proofs.Fits.{lines-small}
 use Rattle.layers.proofs.Answers.{Comes, settled-yes, samples-by, unsettled, samples-short, coefficients-short, values-short, right, after-scan}
 use Rattle.layers.proofs.Column.{laid-points, laid-samples, laid-written, laid-coefs}
 use Rattle.layers.proofs.quantizing.quantize.Statement.{statement}
@@ -50,38 +51,50 @@ is-settled c = sym (c .before .settled .ensures) ∙ not-false _ (c .if1 .left)
 sheet : (c : tie.Else1) → Sheet (Sh (c .before .before))
 sheet c = let a = c .before .before in accepted-yes (Sh a) (settled-yes (Sh a) (a .args .step) (is-settled c) .0)
 
-mul-lines : tie.Need-mul-lines
-mul-lines c = omega (arith, lines-small (sheet c))
+points-requires : tie.Need-points-requires
+points-requires c κs = search needs
 
-mul-points : tie.Need-mul-points
-mul-points c = omega (arith, sheet c .small)
+-- a length that is the points' number, or is not
+long : (n : tie.After-points) → n .points .result ≡ points (Sh (n .before .before .before))
+long n =
+    let a = n .before .before .before in
+    n .points .ensures ∙ points-in (Sh a) (settled-yes (Sh a) (a .args .step) (is-settled (n .before)) .0)
 
 returns-2 : tie.Need-returns-2
 returns-2 c =
-    let a = c .before .before .before in
-    samples-short (Sh a) (a .args .curve) (a .args .step) (Xs a) (Qs a) (Vs a) (λ e. c .if2 .taken (omega arith))
+    let n = c .before in
+    let a = n .before .before .before in
+    samples-short (Sh a) (a .args .curve) (a .args .step) (Xs a) (Qs a) (Vs a) (λ e. c .if2 .taken (e ∙ sym (long n)))
 
 returns-3 : tie.Need-returns-3
 returns-3 c =
-    let a = c .before .before .before .before in
-    coefficients-short (Sh a) (a .args .curve) (a .args .step) (Xs a) (Qs a) (Vs a) (c .if3 .taken)
+    let n = c .before .before in
+    let a = n .before .before .before in
+    coefficients-short (Sh a) (a .args .curve) (a .args .step) (Xs a) (Qs a) (Vs a) (λ e. c .if3 .taken (e ∙ sym (long n)))
 
 returns-4 : tie.Need-returns-4
 returns-4 c =
-    let a = c .before .before .before .before .before in
-    values-short (Sh a) (a .args .curve) (a .args .step) (Xs a) (Qs a) (Vs a) (c .if4 .taken)
-
-scan-samples-requires : tie.Need-scan-samples-requires
-scan-samples-requires c κs = search needs
+    let n = c .before .before .before in
+    let a = n .before .before .before in
+    values-short (Sh a) (a .args .curve) (a .args .step) (Xs a) (Qs a) (Vs a) (λ e. c .if4 .taken (e ∙ sym (long n)))
 
 -- every size is right
+abbrev M : tie.Else4 → tie.After-points
+M d = d .before .before .before
+
 abbrev A : tie.Else4 → tie.Start
-A d = d .before .before .before .before .before
+A d = M d .before .before .before
+
+mul-scan-samples : tie.Need-mul-scan-samples
+mul-scan-samples d = omega (arith, lines-small (sheet (M d .before)))
+
+scan-samples-requires : tie.Need-scan-samples-requires
+scan-samples-requires d κs = d .before .before .if2 .left ∙ long (M d)
 
 all-right : (d : tie.Else4) → (let a = A d in quantizable (Sh a) (a .args .step) (Xs a) (Qs a) (Vs a) ≡ true)
 all-right d =
     let a = A d in
-    right (Sh a) (a .args .curve) (a .args .step) (Xs a) (Qs a) (Vs a) (is-settled (d .before .before .before)) (d .before .before .if2 .left) (d .before .if3 .left) (d .if4 .left)
+    right (Sh a) (a .args .curve) (a .args .step) (Xs a) (Qs a) (Vs a) (is-settled (M d .before)) (d .before .before .if2 .left ∙ long (M d)) (d .before .if3 .left ∙ long (M d)) (d .if4 .left ∙ long (M d))
 
 enum-known-row : tie.Need-enum-known-row
 enum-known-row c = search needs
@@ -99,8 +112,8 @@ quantize-layers-requires c κs =
     let s = t .before .before in
     let d = s .before in
     let a = A d in
-    let clear = samples-by (Sh a) (a .args .step) (Xs a) (is-settled (d .before .before .before)) (d .before .before .if2 .left) (sym (s .scan-samples .ensures) ∙ t .enum-told .given .1) in
-    rw (l .laid .ensures) (laid-samples (Sh a) clear, (d .before .if3 .left ∙ sym (laid-points (Sh a)), d .if4 .left ∙ sym (laid-points (Sh a))))
+    let clear = samples-by (Sh a) (a .args .step) (Xs a) (is-settled (M d .before)) (d .before .before .if2 .left ∙ long (M d)) (sym (s .scan-samples .ensures) ∙ t .enum-told .given .1) in
+    rw (l .laid .ensures) (laid-samples (Sh a) clear, (d .before .if3 .left ∙ long (M d) ∙ sym (laid-points (Sh a)), d .if4 .left ∙ long (M d) ∙ sym (laid-points (Sh a))))
 
 -- the place that is answered, number by number
 same-place : {row row′ col col′ : ℕ} → row ≡ row′ → col ≡ col′ → OutOfRange row col ≡ OutOfRange row′ col′
@@ -144,11 +157,11 @@ quantize-spec =
     (tie.spec
     settled-requires
     returns
-    mul-lines
-    mul-points
+    points-requires
     returns-2
     returns-3
     returns-4
+    mul-scan-samples
     scan-samples-requires
     enum-known-row
     enum-told

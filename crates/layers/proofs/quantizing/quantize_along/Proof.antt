@@ -13,23 +13,23 @@ use mir.Val.{toZ, ofZ}
 use denote.Ref.{now}
 use borrow.Author.Needs.{sfits-of}
 use Rattle.integers.specs.Distance.{Within}
-use Rattle.layers.specs.declared.Shape.{Shape}
-use Rattle.layers.specs.declared.Curve.{Curve}
-use Rattle.layers.specs.declared.Grid.{Grid}
-use Rattle.layers.specs.Limits.{sampleMost}
-use Rattle.layers.specs.Lists.{at}
-use Rattle.layers.specs.Sheet.{points, place, layers, direction, spacing, inLayer}
+use Rattle.sheet.specs.declared.Shape.{Shape}
+use Rattle.sheet.specs.declared.Curve.{Curve}
+use Rattle.sheet.specs.declared.Grid.{Grid}
+use Rattle.sheet.specs.Limits.{sampleMost}
+use Rattle.sheet.specs.Lists.{at}
+use Rattle.sheet.specs.Sheet.{points, place, layers, direction, spacing, inLayer}
 use Rattle.layers.specs.Prediction.{line, predicted, coefficientOf, rebuiltFrom}
 use Rattle.layers.specs.Layering.{layering, pointBy, Proper, makes, writes}
 use Rattle.layers.specs.Loops.{writtenMost, predictedMost, Below, Samples, inRow, AtRow, AtPoint, partBy}
-use Rattle.layers.proofs.Accepting.{accepted-yes}
-use Rattle.layers.proofs.Fits.{Held, held, cols-small}
+use Rattle.sheet.proofs.Accepting.{accepted-yes}
+use Rattle.sheet.proofs.Fits.{Held, held, cols-small}
 use Rattle.layers.proofs.Neighbours.{row-line, row-predicted}
 use Rattle.layers.proofs.Point.{within-more}
 use Rattle.layers.proofs.SheetLaw.{sheet-proper}
 use Rattle.layers.proofs.Sweep.{Local}
 use Rattle.layers.proofs.InPlace.{inPlace, values-local, beside-local, beside-same}
-use Rattle.layers.proofs.Grids.{Spot, spot-of, point-here}
+use Rattle.layers.proofs.Spots.{Spot, spot-of, point-here}
 use Rattle.layers.proofs.Rows.{PartSwept, rowReach, layer-sheet, good, row-point, point-spot, row-outside, row-start, row-step, row-end, still-below}
 use Rattle.layers.proofs.Range.{predicted-near}
 use Rattle.layers.proofs.Results.{result-is, result-within}

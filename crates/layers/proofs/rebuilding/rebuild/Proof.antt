@@ -4,22 +4,20 @@ use mathlib.Core.Path.{_≡_, _∙_, sym}
 use mathlib.Core.Bool.{true, false, _&&_}
 use mathlib.Core.List.{List}
 use Prim.Native.Nat.{ℕ, _≤_}
-use native.Mathlib.Omega.{arith}
 use lib.IntN.{ℤ}
 use lib.ListN.{length}
 use denote.Ref.{now}
 use borrow.Author.Needs.{needs}
 use borrow.Author.Tests.{not-true, not-false}
-use Rattle.layers.specs.declared.Shape.{Shape}
-use Rattle.layers.specs.declared.Curve.{Curve}
-use Rattle.layers.specs.Limits.{stepMost}
-use Rattle.layers.specs.Sheet.{accepted, points}
+use Rattle.sheet.specs.declared.Shape.{Shape}
+use Rattle.sheet.specs.declared.Curve.{Curve}
+use Rattle.sheet.specs.Limits.{stepMost}
+use Rattle.sheet.specs.Sheet.{accepted, points}
 use Rattle.layers.specs.Layering.{layering, rebuilt}
 use Rattle.layers.specs.Calls.{settled, full, rebuildable, rebuilding}
-use Rattle.layers.specs.Loops.{laid}
+use Rattle.sheet.specs.Lines.{laid}
 use Rattle.integers.proofs.Bools.{and-both, and-no-left, and-no-right}
-use Rattle.layers.proofs.Accepting.{Sheet, accepted-yes}
-use Rattle.layers.proofs.Fits.{lines-small}
+use Rattle.sheet.proofs.Accepting.{points-in}
 use Rattle.layers.proofs.Answers.{settled-yes, full-yes, full-no}
 use Rattle.layers.proofs.Column.{laid-accepted, laid-points, laid-rebuilt}
 use Rattle.layers.proofs.rebuilding.rebuild.Statement.{statement}
@@ -73,28 +71,28 @@ yes s = sym (s .before .settled .ensures) ∙ not-false (s .before .settled .res
 ok : (s : tie.Else1) → (accepted (A s .args .shape) ≡ true) × (A s .args .step ≤ stepMost)
 ok s = settled-yes (A s .args .shape) (A s .args .step) (yes s)
 
-sheet : (s : tie.Else1) → Sheet (A s .args .shape)
-sheet s = accepted-yes (A s .args .shape) (ok s .0)
+points-requires : tie.Need-points-requires
+points-requires c κs = search needs
 
-mul-points : tie.Need-mul-points
-mul-points c = omega (arith, lines-small (sheet c))
-
-mul-points-2 : tie.Need-mul-points-2
-mul-points-2 c = omega (arith, sheet c .small)
+-- a length that is the points' number, or is not
+long : (n : tie.After-points) → n .points .result ≡ points (A (n .before) .args .shape)
+long n = n .points .ensures ∙ points-in (A (n .before) .args .shape) (ok (n .before) .0)
 
 returns-2 : tie.Need-returns-2
 returns-2 c =
-    let a = A (c .before) in
+    let n = c .before in
+    let a = A (n .before) in
     let qs = now (a .args .coefficients) in
     let vs = now (a .args .values) in
-    refused (a .args .shape) (a .args .step) qs vs (a .args .curve) (no-coefficients (a .args .shape) (a .args .step) qs vs (c .if2 .taken))
+    refused (a .args .shape) (a .args .step) qs vs (a .args .curve) (no-coefficients (a .args .shape) (a .args .step) qs vs (λ e. c .if2 .taken (e ∙ sym (long n))))
 
 returns-3 : tie.Need-returns-3
 returns-3 c =
-    let a = A (c .before .before) in
+    let n = c .before .before in
+    let a = A (n .before) in
     let qs = now (a .args .coefficients) in
     let vs = now (a .args .values) in
-    refused (a .args .shape) (a .args .step) qs vs (a .args .curve) (no-values (a .args .shape) (a .args .step) qs vs (c .if3 .taken))
+    refused (a .args .shape) (a .args .step) qs vs (a .args .curve) (no-values (a .args .shape) (a .args .step) qs vs (λ e. c .if3 .taken (e ∙ sym (long n))))
 
 laid-requires : tie.Need-laid-requires
 laid-requires c κs = search needs
@@ -103,9 +101,10 @@ rebuild-layers-requires : tie.Need-rebuild-layers-requires
 rebuild-layers-requires c κs =
     let l = c .before in
     let e = l .before in
-    let s = e .before .before in
+    let n = e .before .before in
+    let s = n .before in
     let sh = A s .args .shape in
-    rw (l .laid .ensures, laid-points sh) ((laid-accepted sh (ok s .0), ok s .1), (e .before .if2 .left, e .if3 .left))
+    rw (l .laid .ensures, laid-points sh) ((laid-accepted sh (ok s .0), ok s .1), (e .before .if2 .left ∙ long n, e .if3 .left ∙ long n))
 
 same-length : tie.Need-same-length
 same-length c = search needs
@@ -114,12 +113,13 @@ returns-4 : tie.Need-returns-4
 returns-4 c =
     let l = c .before .before .before in
     let e = l .before in
-    let s = e .before .before in
+    let n = e .before .before in
+    let s = n .before in
     let a = A s in
     let qs = now (a .args .coefficients) in
     let vs = now (a .args .values) in
     done (a .args .shape) (a .args .step) qs vs (a .args .curve)
-    (all-there (a .args .shape) (a .args .step) qs vs (yes s) (e .before .if2 .left) (e .if3 .left)) (l .laid .ensures) (c .before .rebuild-layers .ensures)
+    (all-there (a .args .shape) (a .args .step) qs vs (yes s) (e .before .if2 .left ∙ long n) (e .if3 .left ∙ long n)) (l .laid .ensures) (c .before .rebuild-layers .ensures)
 
 pub rebuild-spec : {M : Type 1} → statement M
 rebuild-spec =
@@ -127,8 +127,7 @@ rebuild-spec =
     (tie.spec
     settled-requires
     returns
-    mul-points
-    mul-points-2
+    points-requires
     returns-2
     returns-3
     laid-requires

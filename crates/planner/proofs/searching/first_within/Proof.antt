@@ -4,7 +4,7 @@ use native.Mathlib.Omega.{arith}
 use borrow.Author.Count.{below-none, below-more}
 use borrow.Author.Needs.{needs}
 use lib.ListN.{getD}
-use Rattle.layers.specs.Limits.{layersMost}
+use Rattle.header.specs.Plan.{layersMost}
 use Rattle.planner.specs.Table.{rowLength}
 use Rattle.planner.proofs.LastRow.{first-here, first-last}
 use Rattle.planner.proofs.searching.first_within.Statement.{statement}

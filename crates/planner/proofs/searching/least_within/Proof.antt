@@ -5,7 +5,7 @@ use Prim.Native.Nat.{_+_, _-_, _*_, _≤_}
 use native.Mathlib.Omega.{arith}
 use borrow.Author.Needs.{needs}
 use lib.ListN.{getD}
-use Rattle.layers.specs.Limits.{layersMost}
+use Rattle.header.specs.Plan.{layersMost}
 use Rattle.planner.specs.Table.{rowLength}
 use Rattle.planner.proofs.LastRow.{LeastBelow, least-start, least-moves, least-stays, least-all}
 use Rattle.planner.proofs.searching.least_within.Statement.{statement}

@@ -4,6 +4,7 @@ use Prim.Native.Nat.{ℕ, suc, _+_, _-_, _*_, _≤_, _<_}
 use native.Mathlib.Numerals.{add-one}
 use native.Mathlib.Omega.{arith}
 use borrow.Author.Count.{below-none, below-more}
+use borrow.Author.Needs.{needs}
 use lib.ListN.{getD}
 use Rattle.header.specs.Header.{placesMost, planesOf}
 use Rattle.header.proofs.Rightness.{right-yes, counts-few}
@@ -13,11 +14,11 @@ use Rattle.planner.proofs.searching.preferred.Statement.{statement}
 use Rattle.planner.proofs.searching.preferred.Tie as tie
 
 abbrev Inv-loop : tie.InvT-loop
-Inv-loop t header k c top least n₀ n =
+Inv-loop t header k span c top rule least n₀ n =
     (n ≤ top) × ((i : ℕ) → i < n → choice (layersOf header) k (best (layersOf header) k) c i ≡ best (layersOf header) (suc k) c → ⊥)
 
 abbrev μ-loop : tie.MeasureT-loop
-μ-loop t header k c top least n₀ n = top - n
+μ-loop t header k span c top rule least n₀ n = top - n
 
 abbrev S : tie.After-counts Inv-loop μ-loop → tie.Start Inv-loop μ-loop
 S c = c .before .before
@@ -27,7 +28,7 @@ few s = counts-few (right-yes (s .args .header) (s .pre .0 .0)) (s .args .k) (s 
 
 -- what is looked for
 least-is : (s : tie.Start Inv-loop μ-loop) → getD (s .args .t .now) ((s .args .k + 1) * rowLength + s .args .c) 0 ≡ best (layersOf (s .args .header)) (suc (s .args .k)) (s .args .c)
-least-is s = rw (add-one (s .args .k)) (s .pre .1 .0 .held (suc (s .args .k)) (s .args .c) (s .pre .0 .1) (s .pre .0 .2))
+least-is s = rw (add-one (s .args .k)) (s .pre .1 .0 .held (suc (s .args .k)) (s .args .c) (s .pre .0 .1) (s .pre .0 .3))
 
 mul-top : tie.Need-mul-top Inv-loop μ-loop
 mul-top c = omega (arith, S c .pre .0 .1)
@@ -35,31 +36,37 @@ mul-top c = omega (arith, S c .pre .0 .1)
 array-read-top : tie.Need-array-read-top Inv-loop μ-loop
 array-read-top c = S c .pre .0 .1
 
+rule-of-requires : tie.Need-rule-of-requires Inv-loop μ-loop
+rule-of-requires c κs = search needs
+
+abbrev Q : tie.After-rule-of Inv-loop μ-loop → tie.Start Inv-loop μ-loop
+Q c = c .before .before .before
+
 add-least : tie.Need-add-least Inv-loop μ-loop
-add-least c = omega (arith, S c .pre .0 .1)
+add-least c = omega (arith, Q c .pre .0 .1)
 
 mul-least : tie.Need-mul-least Inv-loop μ-loop
-mul-least c = omega (arith, S c .pre .0 .1)
+mul-least c = omega (arith, Q c .pre .0 .1)
 
 add-least-2 : tie.Need-add-least-2 Inv-loop μ-loop
-add-least-2 c = omega (arith, S c .pre .0 .1, S c .pre .0 .2)
+add-least-2 c = omega (arith, Q c .pre .0 .1, Q c .pre .0 .3)
 
 mul-least-2 : tie.Need-mul-least-2 Inv-loop μ-loop
-mul-least-2 c = omega (arith, S c .pre .0 .1, S c .pre .0 .2)
+mul-least-2 c = omega (arith, Q c .pre .0 .1, Q c .pre .0 .3)
 
 shared-slice-read-least : tie.Need-shared-slice-read-least Inv-loop μ-loop
-shared-slice-read-least c = let s = S (c .before) in omega (arith, s .pre .0 .1, s .pre .0 .2, s .pre .1 .0 .long)
+shared-slice-read-least c = let s = Q (c .before) in omega (arith, s .pre .0 .1, s .pre .0 .3, s .pre .1 .0 .long)
 
 loop-holds : tie.Need-loop-holds Inv-loop μ-loop
 loop-holds c = (omega arith, below-none _)
 
 abbrev T : tie.At-loop Inv-loop μ-loop → tie.Start Inv-loop μ-loop
-T l = S (l .before .before)
+T l = Q (l .before .before)
 
 choice-at-requires : tie.Need-choice-at-requires Inv-loop μ-loop
 choice-at-requires c κs =
     let s = T (c .before) in
-    ((s .pre .0 .0, s .pre .0 .1, s .pre .0 .2, omega (arith, c .loop-test .taken)), s .pre .1 .0)
+    ((s .pre .0 .0, s .pre .0 .1, c .before .before .before .rule-of .ensures, s .pre .0 .2, s .pre .0 .3, omega (arith, c .loop-test .taken)), s .pre .1 .0)
 
 returns : tie.Need-returns Inv-loop μ-loop
 returns c =
@@ -96,6 +103,7 @@ preferred-spec =
     μ-loop
     mul-top
     array-read-top
+    rule-of-requires
     add-least
     mul-least
     add-least-2

@@ -4,7 +4,7 @@ use Prim.Native.Nat.{_<_}
 use native.Mathlib.Omega.{arith}
 use borrow.Author.Needs.{needs}
 use lib.ListN.{length}
-use Rattle.layers.specs.Limits.{layersMost}
+use Rattle.header.specs.Plan.{layersMost}
 use Rattle.planner.specs.Planning.{bestByCells}
 use Rattle.planner.specs.Table.{layersOf, LeastWithin, rowLength, none, best}
 use Rattle.planner.proofs.LastRow.{least-best}
@@ -14,10 +14,10 @@ use Rattle.planner.proofs.searching.search_by_cells.Statement.{statemen
 use Rattle.planner.proofs.searching.search_by_cells.Tie as tie
 
 abbrev F : tie.After-least-within → tie.After-fill
-F c = c .before .before .before .before
+F c = c .before .before .before .before .before
 
 abbrev S : tie.After-fill → tie.Start
-S c = c .before .before
+S c = c .before .before .before
 
 -- what is found
 first : (c : tie.After-least-within) → LeastWithin (best (layersOf (S (F c) .args .header)) layersMost) (c .before .before .row-end .result) (c .least-within .result)
@@ -38,6 +38,9 @@ long-plan c = search needs
 
 slice-aggregate-fill : tie.Need-slice-aggregate-fill
 slice-aggregate-fill c = search needs
+
+slice-aggregate-fill-2 : tie.Need-slice-aggregate-fill-2
+slice-aggregate-fill-2 c = search needs
 
 fill-requires : tie.Need-fill-requires
 fill-requires c κs = search needs
@@ -74,6 +77,7 @@ search-by-cells-spec =
     tie.close
     (tie.spec
     slice-aggregate-fill
+    slice-aggregate-fill-2
     fill-requires
     row-end-requires
     slice-aggregate-least-within

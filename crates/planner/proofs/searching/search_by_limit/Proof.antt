@@ -3,7 +3,7 @@ use mathlib.Core.Path.{_≡_}
 use Prim.Native.Nat.{_<_}
 use borrow.Author.Needs.{needs}
 use lib.ListN.{length}
-use Rattle.layers.specs.Limits.{layersMost}
+use Rattle.header.specs.Plan.{layersMost}
 use Rattle.planner.specs.Planning.{bestByLimit}
 use Rattle.planner.specs.Table.{layersOf, FirstWithin, none, best}
 use Rattle.planner.proofs.LastRow.{first-best}
@@ -13,10 +13,10 @@ use Rattle.planner.proofs.searching.search_by_limit.Statement.{statemen
 use Rattle.planner.proofs.searching.search_by_limit.Tie as tie
 
 abbrev F : tie.After-first-within → tie.After-fill
-F c = c .before .before .before .before
+F c = c .before .before .before .before .before
 
 abbrev S : tie.After-fill → tie.Start
-S c = c .before .before
+S c = c .before .before .before
 
 -- what is found
 first : (c : tie.After-first-within) → FirstWithin (best (layersOf (S (F c) .args .header)) layersMost) (c .before .before .room-of .result) (c .first-within .result)
@@ -36,6 +36,9 @@ long-plan c = search needs
 
 slice-aggregate-fill : tie.Need-slice-aggregate-fill
 slice-aggregate-fill c = search needs
+
+slice-aggregate-fill-2 : tie.Need-slice-aggregate-fill-2
+slice-aggregate-fill-2 c = search needs
 
 fill-requires : tie.Need-fill-requires
 fill-requires c κs = search needs
@@ -72,6 +75,7 @@ search-by-limit-spec =
     tie.close
     (tie.spec
     slice-aggregate-fill
+    slice-aggregate-fill-2
     fill-requires
     room-of-requires
     slice-aggregate-first-within

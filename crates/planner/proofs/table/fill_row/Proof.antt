@@ -11,13 +11,13 @@ use Rattle.planner.proofs.table.fill_row.Statement.{statement}
 use Rattle.planner.proofs.table.fill_row.Tie as tie
 
 abbrev Inv-loop : tie.InvT-loop
-Inv-loop t₀ header k reach top n₀ n-end t n = (n ≤ n-end) × Tried (layersOf header) t k n
+Inv-loop t₀ held header k span reach top n₀ n-end t n = (n ≤ n-end) × Tried (layersOf header) t k n
 
 abbrev μ-loop : tie.MeasureT-loop
-μ-loop t₀ header k reach top n₀ n-end t n = n-end - n
+μ-loop t₀ held header k span reach top n₀ n-end t n = n-end - n
 
 abbrev S : tie.After-counts Inv-loop μ-loop → tie.Start Inv-loop μ-loop
-S c = c .before .before
+S c = c .before .before .before
 
 few : (s : tie.Start Inv-loop μ-loop) → planesOf (s .args .header) (s .args .k) ≤ placesMost
 few s = counts-few (right-yes (s .args .header) (s .pre .0 .0)) (s .args .k) (s .pre .0 .1)
@@ -37,13 +37,13 @@ add-n-end c = omega (arith, few (S c))
 loop-holds : tie.Need-loop-holds Inv-loop μ-loop
 loop-holds c =
     let s = S c in
-    (omega arith, tried-none (layersOf (s .args .header)) (s .args .t .now) (s .args .k) (s .pre .0 .1) (s .pre .1))
+    (omega arith, tried-none (layersOf (s .args .header)) (s .args .t .now) (s .args .k) (s .pre .0 .1) (s .pre .1 .1))
 
 try-count-requires : tie.Need-try-count-requires Inv-loop μ-loop
 try-count-requires c κs =
     let i = c .before in
     let s = S (i .before .before) in
-    ((s .pre .0 .0, s .pre .0 .1, omega (arith, i .loop-test .taken), s .pre .0 .2), i .before .loop .inv .1)
+    ((s .pre .0 .0, s .pre .0 .1, omega (arith, i .loop-test .taken), s .pre .0 .2, s .pre .0 .3), (s .pre .1 .0, i .before .loop .inv .1))
 
 add-n : tie.Need-add-n Inv-loop μ-loop
 add-n c = omega (arith, I c .loop-test .taken, few (S (I c .before .before)))
@@ -55,7 +55,7 @@ loop-again : tie.Need-loop-again Inv-loop μ-loop
 loop-again c = (omega (arith, I c .loop-test .taken), rw (add-one (I c .before .loop .n)) (c .before .before .try-count .ensures))
 
 same-length : tie.Need-same-length Inv-loop μ-loop
-same-length c = c .before .loop .inv .1 .long ∙ sym (S (c .before .before) .pre .1 .long)
+same-length c = c .before .loop .inv .1 .long ∙ sym (S (c .before .before) .pre .1 .1 .long)
 
 returns : tie.Need-returns Inv-loop μ-loop
 returns c =

@@ -6,7 +6,7 @@ use native.Mathlib.Omega.{arith}
 use lib.ListN.{length, getD, set, take}
 use lib.Seq.{sets, length-sets}
 use denote.Ref.{now}
-use Rattle.header.proofs.Stores.{sets-next, sets-whole}
+use Rattle.text.proofs.Stores.{sets-next, sets-whole}
 use Rattle.trace_card.proofs.answer.put.Statement.{statement}
 use Rattle.trace_card.proofs.answer.put.Tie as tie
 

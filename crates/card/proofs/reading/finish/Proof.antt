@@ -1,0 +1,53 @@
+-- By the refusal: it is passed on, and where there is none the two calls give the values and the figure.
+use mathlib.Core.Path.{refl, ap, _∙_}
+use borrow.Author.Needs.{needs}
+use denote.Ref.{now}
+use Rattle.header.proofs.Refusing.{refusing}
+use Rattle.card.specs.declared.Reached.{Reached}
+use Rattle.card.specs.Reading.{told, finished}
+use Rattle.card.proofs.ReadCall.{finished-yes, stops}
+use Rattle.card.proofs.reading.finish.Statement.{statement}
+use Rattle.card.proofs.reading.finish.Tie as tie
+
+enum-told : tie.Need-enum-told
+enum-told c = search needs
+
+rebuild-requires : tie.Need-rebuild-requires
+rebuild-requires c κs = search needs
+
+error-bound-requires : tie.Need-error-bound-requires
+error-bound-requires c κs = search needs
+
+refused-requires : tie.Need-refused-requires
+refused-requires c κs = search needs
+
+same-length : tie.Need-same-length
+same-length c = search needs
+
+returns : tie.Need-returns
+returns c =
+    let b = c .before .before in
+    let t = b .before .before .before in
+    let s = t .before .before in
+    finished-yes (s .args .refusal) (t .enum-told .given .1) (s .args .header) (s .args .plan) (now (s .args .coefficients)) (now (s .args .values)) _ _ (b .rebuild .ensures .1) (c .error-bound .ensures)
+
+returns-2 : tie.Need-returns-2
+unfolding finished
+returns-2 c =
+    let s = c .before .before in
+    let qs = now (s .args .coefficients) in
+    let vs = now (s .args .values) in
+    ap (λ (r : Reached). told r qs vs) (c .refused .ensures)
+    ∙ stops qs vs (s .args .refusal) _ refl _ (refusing (s .args .refusal) (c .before .match .keys2))
+
+pub finish-spec : {M : Type 1} → statement M
+finish-spec =
+    tie.close
+    (tie.spec
+    enum-told
+    rebuild-requires
+    error-bound-requires
+    refused-requires
+    same-length
+    returns
+    returns-2)

@@ -1,0 +1,61 @@
+-- The rules of a layer: the rule that is told carries as the layer does, which rises strictly and at most doubles what stands; and of a right header the charge that is told is the layer's, far below 2^40.
+use mathlib.Core.Bool.{Bool, true, false, cond}
+use mathlib.Core.Path.{_≡_, refl, ap}
+use Prim.Native.Nat.{ℕ, _*_, _^_, _<_, _≤_}
+use native.Mathlib.Omega.{arith}
+use borrow.Author.Tests.{lt-ltb, le-leb}
+use lib.Dec.{eqb}
+use Rattle.integers.specs.Floor.{ceilDiv}
+use Rattle.sheet.specs.declared.Curve.{Curve}
+use Rattle.sheet.specs.declared.Curve.the-variants.{Linear, Cubic}
+use Rattle.sheet.specs.Lines.{sizing}
+use Rattle.layers.specs.Carry.{carried, carry}
+use Rattle.sheet.specs.Limits.{layersMost}
+use Rattle.layers.proofs.Carry.{carried-rising}
+use Rattle.header.specs.declared.Header.{Header}
+use Rattle.header.specs.Header.{planesOf}
+use Rattle.header.proofs.Rightness.{Right, counts-few}
+use Rattle.figure.specs.declared.Rule.{Rule}
+use Rattle.figure.specs.Figure.{ruleOf, carriedIn, carryOf, chargeOf, chargeIn}
+use Rattle.figure.proofs.Figures.{own-most}
+
+-- ---- carrying
+carried-double : (curve : Curve) (m : ℕ) → carried curve m ≤ 2 * m
+unfolding carried ceilDiv
+carried-double Linear m = omega arith
+carried-double Cubic m = omega arith
+
+module _ (h : Header) (k : ℕ) where
+  rule-carries : (m : ℕ) → carried (ruleOf h k .curve) m ≡ carryOf h k m
+  unfolding ruleOf carryOf carried
+  rule-carries m = step (eqb (sizing (h .shape) k) 0)
+    where
+      step : (t : Bool) → carried (cond t Linear (h .curve)) m ≡ cond t m (carry (h .shape) (h .curve) k m)
+      step true = refl
+      step false = refl
+
+  -- a number that is not too large is carried to one that fits
+  pub carried-told : (rule : Rule) (m : ℕ) → rule ≡ ruleOf h k → 2 * m < 2 ^ 64 → carriedIn rule m ≡ carryOf h k m
+  carried-told rule m e l =
+      omega (arith, carried-double (rule .curve) m, ap (λ (x : Rule). carried (x .curve) m) e, rule-carries m)
+
+  pub carry-double : (m : ℕ) → carryOf h k m ≤ 2 * m
+  carry-double m = omega (arith, rule-carries m, carried-double (ruleOf h k .curve) m)
+
+  pub carry-rising : (a b : ℕ) → a < b → carryOf h k a < carryOf h k b
+  unfolding carryOf
+  carry-rising a b l = step (eqb (sizing (h .shape) k) 0)
+    where
+      step : (t : Bool) → cond t a (carry (h .shape) (h .curve) k a) < cond t b (carry (h .shape) (h .curve) k b)
+      step true = l
+      step false = carried-rising (h .curve) a b l
+
+-- ---- what a layer adds
+module _ {h : Header} (r : Right h) (k n : ℕ) (l : k < layersMost) where
+  pub charge-told : n ≤ planesOf h k → chargeIn h k n ≡ chargeOf h k n
+  unfolding chargeIn
+  charge-told few = rw (lt-ltb _ _ l, le-leb _ _ (r .step), le-leb _ _ (counts-few r k l), le-leb _ _ few)
+
+  pub charge-most : chargeOf h k n ≤ 2 ^ 40
+  unfolding chargeOf
+  charge-most = omega (arith, own-most r (λ _. n) k l)

@@ -1,0 +1,5 @@
+pub mod Limits
+pub mod Figures
+pub mod FigureCall
+pub mod LayerRules
+pub mod Places

@@ -1,0 +1,72 @@
+-- What stands, place by place: over all the places for layers it comes to what stands after the card's, since a layer without points carries what stands and has no planes to lose.
+use mathlib.Core.Path.{_≡_, refl, sym, ap, _∙_}
+use Prim.Native.Nat.{ℕ, zero, suc, _+_, _-_, _^_, _≤_}
+use native.Mathlib.Nat.{le-refl}
+use native.Mathlib.Decide.{decLt, ℕ-discrete}
+use native.Mathlib.Omega.{arith}
+use borrow.Author.Tests.{ne-eqb}
+use Rattle.digits.proofs.Losses.{loss-none}
+use Rattle.sheet.specs.Lines.{sizing}
+use Rattle.layers.specs.Carry as C
+use Rattle.sheet.specs.Limits.{layersMost}
+use Rattle.sheet.specs.Sheet.{layers, layerSize}
+use Rattle.layers.proofs.Standing.{standing-empty, standing-more}
+use Rattle.header.specs.declared.Header.{Header}
+use Rattle.header.specs.Header.{planesOf}
+use Rattle.header.proofs.Cells.{size-there, size-past}
+use Rattle.header.proofs.Rightness.{Right, layers-few, counts-past, counts-empty}
+use Rattle.figure.specs.Figure.{ownLoss, figureOf, carryOf, chargeOf}
+use Rattle.figure.proofs.Figures.{standing-small, standing-most}
+
+-- what stands after the first k places, n k planes of layer k being loaded
+unfoldable pub standing : Header → (ℕ → ℕ) → ℕ → ℕ
+standing h n zero = 0
+standing h n (suc k) = carryOf h k (standing h n k) + chargeOf h k (n k)
+
+module _ {h : Header} (r : Right h) (n : ℕ → ℕ) where
+  -- a layer without points
+  still : (k : ℕ) → sizing (h .shape) k ≡ 0 → planesOf h k ≡ 0 → standing h n (suc k) ≡ standing h n k
+  unfolding standing carryOf chargeOf
+  still k s e =
+      let z : planesOf h k - n k ≡ 0 = omega arith in
+      rw (s, z, loss-none) (omega arith)
+
+  -- any other
+  moved : (k : ℕ) → (sizing (h .shape) k ≡ 0 → ⊥)
+      → standing h n (suc k) ≡ C.carry (h .shape) (h .curve) k (standing h n k) + ownLoss h n k
+  unfolding standing carryOf chargeOf
+  moved k s = rw (ne-eqb (sizing (h .shape) k) 0 s)
+
+  stands : (k : ℕ) → k ≤ layers (h .shape) → standing h n k ≡ C.standing (h .shape) (h .curve) (ownLoss h n) k
+  stands zero l = unfold standing C.standing in refl
+  stands (suc k) l =
+      let same = size-there (h .shape) (r .shape) k l in
+      let before = stands k (omega arith) in
+      elim (ℕ-discrete (layerSize (h .shape) k) 0) [
+        | yes e ↦ still k (same ∙ e) (counts-empty r k (omega (arith, layers-few r)) e) ∙ before ∙ sym (standing-empty (h .shape) (h .curve) (ownLoss h n) k e)
+        | no e ↦ moved k (λ z. e (sym same ∙ z)) ∙ ap (λ (m : ℕ). C.carry (h .shape) (h .curve) k m + ownLoss h n k) before ∙ sym (standing-more (h .shape) (h .curve) (ownLoss h n) k e)
+      ]
+
+  -- past the last layer
+  stays : (k : ℕ) → layers (h .shape) ≤ k → k ≤ layersMost → standing h n k ≡ standing h n (layers (h .shape))
+  stays zero l m = let e : 0 ≡ layers (h .shape) = omega arith in ap (standing h n) e
+  stays (suc k) l m =
+      elim (decLt k (layers (h .shape))) [
+        | yes i ↦ let e : suc k ≡ layers (h .shape) = omega arith in ap (standing h n) e
+        | no i ↦ still k (size-past (h .shape) (r .shape) k (omega arith)) (counts-past r k (omega arith) m) ∙ stays k (omega arith) (omega arith)
+      ]
+
+  all-stands : standing h n layersMost ≡ C.standing (h .shape) (h .curve) (ownLoss h n) (layers (h .shape))
+  all-stands = stays layersMost (layers-few r) (le-refl layersMost) ∙ stands (layers (h .shape)) (le-refl _)
+
+  pub figure-same : h .step + standing h n layersMost ≡ figureOf h n
+  unfolding figureOf
+  figure-same = ap (λ (m : ℕ). h .step + m) all-stands
+
+  -- far below 2^64 at every place
+  pub below : (k : ℕ) → k ≤ layersMost → standing h n k ≤ 2 ^ 56
+  below k l =
+      elim (decLt k (layers (h .shape))) [
+        | yes i ↦ omega (arith, stands k (omega arith), standing-most r n k (omega arith), standing-small)
+        | no i ↦ omega (arith, stays k (omega arith) l, stands (layers (h .shape)) (le-refl _), standing-most r n (layers (h .shape)) (le-refl _), standing-small)
+      ]

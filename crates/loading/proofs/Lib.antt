@@ -1,0 +1,13 @@
+pub mod LayerPlanes
+pub mod CardBits
+pub mod Weights
+pub mod Scatters
+pub mod Spreads
+pub mod PlaneSums
+pub mod HalfBytes
+pub mod ZeroBits
+pub mod SlotOrder
+pub mod SlotTests
+pub mod WordSums
+pub mod ReadWords
+pub mod Loads

@@ -1,0 +1,95 @@
+-- A plane that is fine or not, a slot that is asked for or not, and what is left of the words: each law by its tests' outcomes.
+use mathlib.Core.Path.{_≡_}
+use mathlib.Core.Bool.{Bool, true, false, not, _&&_, _||_}
+use mathlib.Core.List.{List}
+use Prim.Native.Nat.{ℕ, suc, _+_, _*_, _-_, _<_, _≤_}
+use native.Mathlib.Omega.{arith}
+use borrow.Author.Tests.{lt-ltb, le-ltb, le-leb, lt-leb, ltb-true, eqb-true}
+use lib.Dec.{ltb, eqb}
+use lib.ListN.{length}
+use Rattle.integers.proofs.Bools.{by, and-left, or-cases}
+use Rattle.header.specs.Header.{cellPoints}
+use Rattle.packing.specs.Planes.{allBelow}
+use Rattle.loading.specs.Loading.{bitAt}
+use Rattle.loading.specs.Words.{fineAt, asked, slotFine, slotWords, wordsWith}
+use Rattle.packing.proofs.All.{all-at}
+use Rattle.loading.proofs.PlaneSums.{with-length}
+
+-- ---- one plane
+module _ (bs : List ℕ) (from n c : ℕ) where
+  abbrev Clean : Bool
+  Clean = allBelow (λ i. ltb i n || eqb (bitAt bs from i) 0) (cellPoints * c)
+
+  -- a spare bit set
+  pub fine-spare : (top : Bool) → Clean ≡ false → fineAt bs from n c top ≡ false
+  unfolding fineAt
+  fine-spare top e = rw e
+
+  -- none, in a plane below the top one
+  pub fine-lower : (top : Bool) → Clean ≡ true → top ≡ false → fineAt bs from n c top ≡ true
+  unfolding fineAt
+  fine-lower top e q = rw (e, q)
+
+  -- and in the top one
+  pub fine-top : (top : Bool) → Clean ≡ true → top ≡ true → fineAt bs from n c top ≡ not (allBelow (λ i. eqb (bitAt bs from i) 0) n)
+  unfolding fineAt
+  fine-top top e q = rw (e, q)
+
+  -- the spare bits of a fine plane are 0
+  pub fine-zeros : (top : Bool) → fineAt bs from n c top ≡ true → (i : ℕ) → n ≤ i → i < cellPoints * c → bitAt bs from i ≡ 0
+  unfolding fineAt
+  fine-zeros top e i l h =
+      or-cases (ltb i n) (eqb (bitAt bs from i) 0) (all-at (λ i. ltb i n || eqb (bitAt bs from i) 0) (cellPoints * c) (and-left Clean _ e) i h)
+      (λ a. absurd (let z : ⊥ = omega (arith, ltb-true i n a) in z))
+      (λ a. eqb-true _ _ a)
+
+-- ---- is it asked for?
+module _ (count want p : ℕ) where
+  pub asked-yes : p < count → count - p ≤ want → asked count want p ≡ true
+  unfolding asked
+  asked-yes a b = let l : count ≤ p + want = omega arith in rw (lt-ltb p count a, le-leb count (p + want) l)
+
+  pub asked-less : want < count - p → asked count want p ≡ false
+  unfolding asked
+  asked-less b = let a : p < count = omega arith in let l : p + want < count = omega arith in rw (lt-ltb p count a, lt-leb count (p + want) l)
+
+  pub asked-out : count ≤ p → asked count want p ≡ false
+  unfolding asked
+  asked-out a = rw (le-ltb p count a)
+
+-- ---- one slot
+module _ (bs : List ℕ) (from n c count want p : ℕ) (ws : List ℕ) (start : ℕ) where
+  abbrev Both : Bool → List ℕ → Type 0
+  Both f vs = (slotFine bs from n c count want p ≡ f) × (slotWords bs from n c count want p ws start ≡ vs)
+
+  pub slot-none : asked count want p ≡ false → Both true ws
+  unfolding slotWords slotFine
+  slot-none a = (rw a, rw a)
+
+  pub slot-bad : asked count want p ≡ true → fineAt bs from n c (eqb (suc p) count) ≡ false → Both false ws
+  unfolding slotWords slotFine
+  slot-bad a f = (rw (a, f), rw (a, f))
+
+  pub slot-good : asked count want p ≡ true → fineAt bs from n c (eqb (suc p) count) ≡ true → Both true (wordsWith ws start (cellPoints * c) p (bitAt bs from))
+  unfolding slotWords slotFine
+  slot-good a f = (rw (a, f), rw (a, f))
+
+  pub slot-adds : asked count want p ≡ true → slotFine bs from n c count want p ≡ true → slotWords bs from n c count want p ws start ≡ wordsWith ws start (cellPoints * c) p (bitAt bs from)
+  unfolding slotWords
+  slot-adds a f = rw (a, f)
+
+-- ---- equal numbers give equal answers
+module _ (bs : List ℕ) {from from′ n n′ c c′ : ℕ} (a : from ≡ from′) (b : n ≡ n′) (d : c ≡ c′) (count want p : ℕ) where
+  pub fine-same : slotFine bs from n c count want p ≡ slotFine bs from′ n′ c′ count want p
+  fine-same = rw (a, b, d)
+
+  pub words-same : (ws : List ℕ) {start start′ : ℕ} → start ≡ start′ → slotWords bs from n c count want p ws start ≡ slotWords bs from′ n′ c′ count want p ws start′
+  words-same ws e = rw (a, b, d, e)
+
+-- a slot leaves as many words as there were
+pub slot-length : (bs : List ℕ) (from n c count want p : ℕ) (ws : List ℕ) (start : ℕ) → length (slotWords bs from n c count want p ws start) ≡ length ws
+unfolding slotWords
+slot-length bs from n c count want p ws start =
+    by (asked count want p && slotFine bs from n c count want p)
+    (λ e. rw e (with-length ws start (cellPoints * c) p (bitAt bs from)))
+    (λ e. rw e)

@@ -1,0 +1,3 @@
+pub mod Loading
+pub mod Words
+pub mod Calls

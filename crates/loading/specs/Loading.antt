@@ -1,0 +1,79 @@
+-- The planes in a card's bytes, and the coefficients that they give (document 01, "Digits and planes", "Reading and refining").
+use mathlib.Core.Bool.{Bool, cond, not, _&&_, _||_}
+use mathlib.Core.List.{List}
+use Prim.Native.Nat.{ℕ, suc, _+_, _*_, _-_, _/_, _%_, _^_}
+use lib.Dec.{ltb, leb, eqb}
+use lib.IntN.{ℤ, pos, _+ℤ_, _*ℤ_}
+use lib.ListN.{length, getD}
+use Rattle.digits.specs.Digits.{value, weight, firstFrom}
+use Rattle.sheet.specs.declared.Shape.{Shape}
+use Rattle.sheet.specs.Lists.{at, tabulate, total}
+use Rattle.sheet.specs.Sheet.{points, layers, layerSize, inLayer, placeIn}
+use Rattle.header.specs.declared.Header.{Header}
+use Rattle.header.specs.Header.{placesMost, cellBytes, cellPoints, planesOf, planeCells}
+use Rattle.order.specs.CardOrder.{cellsBefore}
+use Rattle.packing.specs.Planes.{allBelow, ownLayer}
+
+-- bit i of the bytes from `from` on
+unfoldable pub bitAt : List ℕ → ℕ → ℕ → ℕ
+bitAt bs from i = getD bs (from + i / 8) 0 / 2 ^ (i % 8) % 2
+
+-- ---- the planes in a card's bytes: the header h, `long` bytes of it, then the planes
+module _ (h : Header) (long : ℕ) (bs : List ℕ) where
+  -- bit i of layer k's plane at place p
+  abbrev pub bitOf : ℕ → ℕ → ℕ → ℕ
+  bitOf k p = bitAt bs (long + cellBytes * cellsBefore h k p)
+
+  -- "8, .. a plane of the plan has a spare bit set, or is its layer's top plane with no 1"
+  unfoldable pub clean : ℕ → ℕ → Bool
+  clean k p = allBelow (λ i. ltb i (layerSize (h .shape) k) || eqb (bitOf k p i) 0) (cellPoints * planeCells (h .shape) k)
+
+  unfoldable pub hasOne : ℕ → ℕ → Bool
+  hasOne k p = not (allBelow (λ i. eqb (bitOf k p i) 0) (layerSize (h .shape) k))
+
+  unfoldable pub fine : ℕ → ℕ → Bool
+  fine k p = clean k p && (not (eqb (suc p) (planesOf h k)) || hasOne k p)
+
+  module _ (plan : ℕ → ℕ) where
+    -- is layer k's plane at place p one of the plan? It loads them from the top
+    abbrev pub loaded : ℕ → ℕ → Bool
+    loaded k p = ltb p (planesOf h k) && leb (planesOf h k) (p + plan k)
+
+    -- "in card order": slot t is place 22 - t / K of layer t % K, K layers in all. The first slot of the plan with a plane that is not fine
+    abbrev pub slotLayer : ℕ → ℕ
+    slotLayer t = t % layers (h .shape)
+
+    abbrev pub slotPlace : ℕ → ℕ
+    slotPlace t = placesMost - 1 - t / layers (h .shape)
+
+    unfoldable pub badSlot : ℕ → Bool
+    badSlot t = loaded (slotLayer t) (slotPlace t) && not (fine (slotLayer t) (slotPlace t))
+
+    abbrev pub slots : ℕ
+    slots = placesMost * layers (h .shape)
+
+    unfoldable pub firstBad : ℕ
+    firstBad = firstFrom badSlot slots 0
+
+    -- "Missing digits count as 0": the coefficient of the point that stands at place i of layer k
+    unfoldable pub coefRead : ℕ → ℕ → ℤ
+    coefRead k i = value (tabulate (planesOf h k) (λ p. cond (loaded k p) (bitOf k p i) 0))
+
+    -- the word of those digits: each at its place
+    unfoldable pub wordRead : ℕ → ℕ → ℕ
+    wordRead k i = total (λ p. cond (loaded k p) (bitOf k p i * 2 ^ p) 0) placesMost
+
+    unfoldable pub coefsRead : List ℤ
+    coefsRead =
+        tabulate (points (h .shape)) (λ j.
+        let k = ownLayer (h .shape) j in
+        coefRead k (placeIn (h .shape) k j))
+
+-- ---- one plane more
+-- the coefficients with the digits of a plane at place p of layer k added: each point's digit adds its weight
+unfoldable pub coefsPlus : Shape → ℕ → ℕ → (ℕ → ℕ) → List ℤ → List ℤ
+coefsPlus sh k p digit qs =
+    tabulate (length qs) (λ j. cond (inLayer sh k j) (at qs j +ℤ pos (digit (placeIn sh k j)) *ℤ weight p) (at qs j))
+
+abbrev pub coefsWith : Header → ℕ → List ℕ → ℕ → ℕ → List ℤ → List ℤ
+coefsWith h long bs k p qs = coefsPlus (h .shape) k p (bitOf h long bs k p) qs

@@ -1,0 +1,5 @@
+pub mod CardOrder
+pub mod Tops
+pub mod Whole
+pub mod Through
+pub mod Walk

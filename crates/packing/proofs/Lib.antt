@@ -1,0 +1,12 @@
+pub mod All
+pub mod Blocks
+pub mod Runs
+pub mod Packing
+pub mod BodyOrder
+pub mod HeldLayers
+pub mod FlatPlanes
+pub mod Gathers
+pub mod Counting
+pub mod Needed
+pub mod HeldWords
+pub mod Cards

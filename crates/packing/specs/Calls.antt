@@ -1,0 +1,13 @@
+-- The call: the card that it puts, whatever it is given.
+use mathlib.Core.Bool.{cond, _&&_}
+use mathlib.Core.List.{List, []}
+use Prim.Native.Nat.{ℕ}
+use lib.IntN.{ℤ}
+use Rattle.sheet.specs.declared.Shape.{Shape}
+use Rattle.sheet.specs.declared.Curve.{Curve}
+use Rattle.layers.specs.Calls.{settled, full}
+use Rattle.packing.specs.Planes.{cardOf, allHeld}
+
+-- the card of coefficients; none where the shape, the step or a coefficient is none of a card's
+unfoldable pub cardFor : Shape → Curve → ℕ → List ℤ → List ℕ
+cardFor sh curve e qs = cond (settled sh e && (full sh qs && allHeld qs)) (cardOf sh curve e qs) []

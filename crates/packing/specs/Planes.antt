@@ -1,0 +1,79 @@
+-- The planes of a card (document 01, "Digits and planes" and "The card").
+use mathlib.Core.Bool.{Bool, true, cond, not, _&&_, _||_}
+use mathlib.Core.List.{List, [], _++_}
+use Prim.Native.Nat.{ℕ, zero, suc, _+_, _*_}
+use lib.Dec.{ltb}
+use lib.IntN.{ℤ}
+use lib.ListN.{length}
+use Rattle.digits.specs.Digits.{digitAt, holds, firstFrom}
+use Rattle.sheet.specs.declared.Shape.{Shape}
+use Rattle.sheet.specs.declared.Curve.{Curve}
+use Rattle.sheet.specs.declared.Curve.the-variants.{Linear}
+use Rattle.sheet.specs.Limits.{layersMost}
+use Rattle.sheet.specs.Lists.{at, tabulate}
+use Rattle.sheet.specs.Sheet.{points, layers, inLayer, layerSize, pointOf}
+use Rattle.layers.specs.Layering.{layering, layerNo}
+use Rattle.header.specs.declared.Header.{Header}
+use Rattle.header.specs.Header.{placesMost, cellBytes, planesOf, planeCells, cellsOf, headerText}
+
+-- ---- tests over the first n numbers
+unfoldable pub allBelow : (ℕ → Bool) → ℕ → Bool
+allBelow t zero = true
+allBelow t (suc n) = allBelow t n && t n
+
+-- the layer that point p stands in; it is the same for both curves
+abbrev pub ownLayer : Shape → ℕ → ℕ
+ownLayer sh p = layerNo (layering sh Linear) p
+
+-- ---- one plane
+-- the number whose n lowest bits are f 0, f 1, ..
+unfoldable pub packed : ℕ → (ℕ → ℕ) → ℕ
+packed zero f = 0
+packed (suc n) f = f 0 + 2 * packed n (λ i. f (suc i))
+
+-- bit i of layer k's plane at place p: the digit of the layer's point i; "spare bits are 0"
+unfoldable pub planeBit : Shape → List ℤ → ℕ → ℕ → ℕ → ℕ
+planeBit sh qs k p i = cond (ltb i (layerSize sh k)) (digitAt (at qs (pointOf sh k i)) p) 0
+
+-- "Point i of a layer is, in each plane, the bit of weight 2^(i mod 8) in byte i/8 rounded down. A plane fills whole cells of 32 bytes".
+unfoldable pub planeBytes : Shape → List ℤ → ℕ → ℕ → List ℕ
+planeBytes sh qs k p = tabulate (cellBytes * planeCells sh k) (λ b. packed 8 (λ j. planeBit sh qs k p (8 * b + j)))
+
+-- ---- all planes
+-- "for each p every layer with P_k > p, layer 0 first": those of the layers before k
+unfoldable pub atPlace : Header → List ℤ → ℕ → ℕ → List ℕ
+atPlace h qs p zero = []
+atPlace h qs p (suc k) = atPlace h qs p k ++ cond (ltb p (planesOf h k)) (planeBytes (h .shape) qs k p) []
+
+-- "p from 22 down to 0": those at the places below n
+unfoldable pub downFrom : Header → List ℤ → ℕ → List ℕ
+downFrom h qs zero = []
+downFrom h qs (suc p) = atPlace h qs p (layers (h .shape)) ++ downFrom h qs p
+
+unfoldable pub body : Header → List ℤ → List ℕ
+body h qs = downFrom h qs placesMost
+
+-- ---- the header of coefficients
+-- do n digits hold every coefficient of layer k?
+unfoldable pub enough : Shape → List ℤ → ℕ → ℕ → Bool
+enough sh qs k n = allBelow (λ p. not (inLayer sh k p) || holds n (at qs p)) (points sh)
+
+-- "P_k is the fewest digits that hold every q of layer k (0 where all are 0 or the layer is empty)"; past the last layer 0 stands. 23 digits are
+-- "enough for every accepted sheet" (`Writes.coefs-hold` of `card`), so the search ends there
+unfoldable pub planesFor : Shape → List ℤ → ℕ → ℕ
+planesFor sh qs k = cond (ltb k (layers sh)) (firstFrom (enough sh qs k) placesMost 0) 0
+
+unfoldable pub countsFor : Shape → List ℤ → List ℕ
+countsFor sh qs = tabulate layersMost (planesFor sh qs)
+
+abbrev pub headerFor : Shape → Curve → ℕ → List ℤ → Header
+headerFor sh curve e qs =
+    record { shape = sh; curve = curve; step = e; planes = countsFor sh qs; cells = cellsOf sh (countsFor sh qs) }
+
+-- does every coefficient lie in "the 23-digit range"?
+unfoldable pub allHeld : List ℤ → Bool
+allHeld qs = allBelow (λ j. holds placesMost (at qs j)) (length qs)
+
+-- the card of coefficients: the header's text, then the planes
+unfoldable pub cardOf : Shape → Curve → ℕ → List ℤ → List ℕ
+cardOf sh curve e qs = headerText (headerFor sh curve e qs) ++ body (headerFor sh curve e qs) qs

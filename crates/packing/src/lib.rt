@@ -1,0 +1,11 @@
+// The card of coefficients: their words in layer order, and the planes of the words behind the header's text.
+mod putting;
+mod words;
+mod writing;
+
+use header::CELL_POINTS;
+use header::MOST_PLACE_CELLS;
+pub use writing::write_card;
+
+// Room for the words of all layers, each in whole cells: one plane of every layer, a word for each point of its cells.
+pub const MOST_WORDS: usize = CELL_POINTS * MOST_PLACE_CELLS;

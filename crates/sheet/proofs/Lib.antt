@@ -1,0 +1,14 @@
+pub mod Rises
+pub mod Lists
+pub mod Parity
+pub mod Accepting
+pub mod LayerCounts
+pub mod Fits
+pub mod Earlier
+pub mod Cover
+pub mod Flat
+pub mod OnGrid
+pub mod Places
+pub mod Size
+pub mod Starts
+pub mod LinePoints

@@ -1,0 +1,154 @@
+-- The invariant: where the first number was put, the first `i` numbers are put, and the place is behind them. Each turn puts a comma and a number more.
+use mathlib.Core.List.{List}
+use mathlib.Core.Path.{_≡_, refl, sym, ap, _∙_}
+use Prim.Native.Nat.{ℕ, _+_, _-_, _≤_, _<_}
+use native.Mathlib.Omega.{arith}
+use lib.ListN.{length, take, getD, length-set}
+use lib.Seq.{sets, take-length}
+use Rattle.text.specs.Decimal.{digits}
+use Rattle.text.specs.Joined.{comma, joined}
+use Rattle.text.proofs.Stores.{Put, put-none, put-more, put-byte}
+use Rattle.text.proofs.Joins.{joined-none, joined-one, joined-more, joined-longer, joined-rises}
+use Rattle.text.proofs.joined.put_list.Statement.{statement}
+use Rattle.text.proofs.joined.put_list.Tie as tie
+
+abbrev Inv-loop : tie.InvT-loop
+Inv-loop out₀ at numbers count end₀ i₀ out end i =
+    (1 ≤ i) × (i ≤ count) × (length out ≡ length out₀) × (end ≡ at + length (joined (take i numbers)))
+    × ((d : List ℕ) → Put d at (joined (take 1 numbers)) out₀ end₀ → Put d at (joined (take i numbers)) out end)
+
+abbrev μ-loop : tie.MeasureT-loop
+μ-loop out₀ at numbers count end₀ i₀ out end i = count - i
+
+abbrev F : tie.At-loop Inv-loop μ-loop → tie.After-put-digits Inv-loop μ-loop
+F l = l .before .before .before
+
+abbrev E : tie.After-put-digits Inv-loop μ-loop → tie.Else1 Inv-loop μ-loop
+E f = f .before .before .before
+
+abbrev S : tie.Else1 Inv-loop μ-loop → tie.Start Inv-loop μ-loop
+S e = e .before .before .before
+
+abbrev Ns : tie.Else1 Inv-loop μ-loop → List ℕ
+Ns e = S e .args .numbers .now
+
+some-are : (e : tie.Else1 Inv-loop μ-loop) → 0 < length (Ns e)
+some-are e = omega (arith, e .if1 .left)
+
+one : (e : tie.Else1 Inv-loop μ-loop) → joined (take 1 (Ns e)) ≡ digits (getD (Ns e) 0 0)
+one e = joined-one (Ns e) (some-are e)
+
+-- all of them fit
+fits : (e : tie.Else1 Inv-loop μ-loop) → S e .args .at + length (joined (take (length (Ns e)) (Ns e))) ≤ length (S e .args .out .now)
+fits e = rw (take-length (Ns e)) (S e .pre)
+
+returns : tie.Need-returns Inv-loop μ-loop
+returns c =
+    let s = c .before .before .before in
+    let z = joined-none (s .args .numbers .now) (omega (arith, c .if1 .taken)) in
+    (omega (arith, ap length z), ap (sets (s .args .out .now) (s .args .at)) (sym z))
+
+shared-slice-read-put-digits : tie.Need-shared-slice-read-put-digits Inv-loop μ-loop
+shared-slice-read-put-digits c = some-are (c .before .before)
+
+put-digits-requires : tie.Need-put-digits-requires Inv-loop μ-loop
+put-digits-requires c κs = let e = c .before .before in omega (arith, fits e, ap length (one e), joined-rises (Ns e) 1 (length (Ns e)) (some-are e))
+
+loop-holds : tie.Need-loop-holds Inv-loop μ-loop
+loop-holds c =
+    let f = c .before .before in
+    (omega arith, some-are (E f), refl, omega (arith, f .put-digits .ensures .0, ap length (one (E f))), λ d p. p)
+
+-- a number more still fits
+more : (c : tie.In-loop Inv-loop μ-loop) → c .before .loop .end + 1 + length (digits (getD (Ns (E (F (c .before)))) (c .before .loop .i) 0)) ≤ length (c .before .loop .out)
+more c =
+    let l = c .before in
+    let e = E (F l) in
+    let ns = Ns e in
+    let i = l .loop .i in
+    omega (
+      arith,
+      fits e,
+      F l .put-digits .kept .0,
+      l .loop .inv .2,
+      l .loop .inv .3,
+      joined-longer ns i (l .loop .inv .0) (c .loop-test .taken),
+      joined-rises ns (i + 1) (length ns) (omega (arith, c .loop-test .taken)),
+    )
+
+slice-write-out : tie.Need-slice-write-out Inv-loop μ-loop
+slice-write-out c = omega (arith, more c)
+
+add-put-digits : tie.Need-add-put-digits Inv-loop μ-loop
+add-put-digits c = let l = c .before .before in omega (arith, more (c .before), l .loop .inv .2, F l .put-digits .kept .0, S (E (F l)) .good)
+
+mul-put-digits : tie.Need-mul-put-digits Inv-loop μ-loop
+mul-put-digits c = let l = c .before .before in omega (arith, c .before .loop-test .taken, S (E (F l)) .good)
+
+shared-slice-read-put-digits-2 : tie.Need-shared-slice-read-put-digits-2 Inv-loop μ-loop
+shared-slice-read-put-digits-2 c = c .before .before .loop-test .taken
+
+put-digits-requires-2 : tie.Need-put-digits-requires-2 Inv-loop μ-loop
+put-digits-requires-2 c κs = simp length-set (more (c .before .before))
+
+-- a turn
+abbrev N : tie.After-slice-known3 Inv-loop μ-loop → tie.After-put-digits2 Inv-loop μ-loop
+N c = c .before .before
+
+abbrev In : tie.After-put-digits2 Inv-loop μ-loop → tie.In-loop Inv-loop μ-loop
+In n = n .before .before .before
+
+add-i : tie.Need-add-i Inv-loop μ-loop
+add-i c = let i = In (N c) in omega (arith, i .loop-test .taken, S (E (F (i .before))) .good)
+
+loop-less : tie.Need-loop-less Inv-loop μ-loop
+loop-less c = omega (arith, In (N c) .loop-test .taken)
+
+loop-again : tie.Need-loop-again Inv-loop μ-loop
+loop-again c =
+    let n = N c in
+    let l = In n .before in
+    let ns = Ns (E (F l)) in
+    let i = l .loop .i in
+    let below : i < length ns = In n .loop-test .taken in (
+      omega (arith, l .loop .inv .0),
+      omega (arith, below),
+      n .put-digits2 .kept .0 ∙ simp length-set (l .loop .inv .2),
+      omega (arith, joined-longer ns i (l .loop .inv .0) below, n .put-digits2 .ensures .0, l .loop .inv .3),
+      λ d p. rw (joined-more ns i (l .loop .inv .0) below) (put-more (digits (getD ns i 0)) _ _ (put-byte comma (l .loop .inv .4 d p)) (n .put-digits2 .ensures .0) (n .put-digits2 .ensures .1)),
+    )
+
+same-length : tie.Need-same-length Inv-loop μ-loop
+same-length c = c .before .loop .inv .2 ∙ F (c .before) .put-digits .kept .0
+
+returns-2 : tie.Need-returns-2 Inv-loop μ-loop
+returns-2 c =
+    let l = c .before in
+    let e = E (F l) in
+    let s = S e in
+    let end : l .loop .i ≡ length (Ns e) = omega (arith, l .loop .inv .1, c .loop-test .left) in
+    let all = ap (λ (k : ℕ). take k (Ns e)) end ∙ take-length (Ns e) in
+    let first = put-more (digits (getD (Ns e) 0 0)) _ _ (put-none (s .args .out .now) (s .args .at)) (F l .put-digits .ensures .0) (F l .put-digits .ensures .1) in
+    let p = l .loop .inv .4 (s .args .out .now) (rw (one e) first) in
+    (p .ends ∙ ap (λ (x : List ℕ). s .args .at + length (joined x)) all, p .stands ∙ ap (λ (x : List ℕ). sets (s .args .out .now) (s .args .at) (joined x)) all)
+
+pub put-list-spec : {M : Type 1} → statement M
+put-list-spec =
+    tie.close
+    (tie.spec
+    Inv-loop
+    μ-loop
+    returns
+    shared-slice-read-put-digits
+    put-digits-requires
+    loop-holds
+    slice-write-out
+    add-put-digits
+    mul-put-digits
+    shared-slice-read-put-digits-2
+    put-digits-requires-2
+    add-i
+    loop-less
+    loop-again
+    same-length
+    returns-2)
