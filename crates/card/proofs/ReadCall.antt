@@ -25,16 +25,16 @@ use Rattle.header.specs.Header.{planesOf, headerText}
 use Rattle.header.specs.Plan.{loads, firstOver}
 use Rattle.header.specs.Opening.{Opening, opening, right}
 use Rattle.header.specs.Opening as O
-use Rattle.order.specs.CardOrder.{whole, wholeIn}
+use Rattle.order.specs.CardOrder.{whole, wholeIn, wholeOf}
 use Rattle.figure.specs.Figure.{figureOf, boundOf}
 use Rattle.header.proofs.Over.{over-le}
 use Rattle.header.proofs.Rightness.{right-yes}
 use Rattle.header.proofs.Opens.{Opens, opened-right}
 use Rattle.header.proofs.Refusing.{opened-accepts}
-use Rattle.loading.specs.Loading.{slots, firstBad, coefsRead}
+use Rattle.loading.specs.InBytes.{slots, firstBad, coefsRead}
 use Rattle.loading.specs.Calls.{Loading, told, loadable, loading, allWhole, wholeLoaded}
 use Rattle.loading.proofs.Loads.{coefs-long, loadable-by, whole-is, plan-within}
-use Rattle.card.specs.Reading.{Reading, wholeOf, no, unless, goodLengths, firstRefusal, readOpened, afterOpening, finished}
+use Rattle.card.specs.Reading.{Reading, no, unless, goodLengths, firstRefusal, readOpened, afterOpening, finished}
 
 -- ---- what a reading that is not refused answers
 abbrev pub readAs : Header → ℕ → List ℕ → Plan → Reading

@@ -26,7 +26,7 @@ use Rattle.header.proofs.Over.{over-none, none-over}
 use Rattle.header.proofs.Rightness.{right-yes, layers-few, few-planes}
 use Rattle.order.proofs.Whole.{whole-most, counted-whole}
 use Rattle.packing.specs.Planes.{allHeld}
-use Rattle.loading.specs.Loading.{fine, coefsWith}
+use Rattle.loading.specs.InBytes.{fine, coefsWith}
 use Rattle.loading.specs.Calls.{Loading, told, there, adding}
 use Rattle.loading.proofs.LayerPlanes.{whole-at}
 use Rattle.loading.proofs.Loads.{plus-long}

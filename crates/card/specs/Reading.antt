@@ -1,10 +1,9 @@
 -- Reading (document 01, "Reading and refining" and "When the box says no").
 use mathlib.Core.Bool.{Bool, cond, _&&_}
 use mathlib.Core.List.{List}
-use Prim.Native.Nat.{ℕ, _-_}
+use Prim.Native.Nat.{ℕ}
 use lib.Dec.{ltb, eqb}
 use lib.IntN.{ℤ}
-use lib.ListN.{length}
 use Rattle.sheet.specs.Limits.{layersMost}
 use Rattle.layers.specs.Layering.{layering, rebuilt}
 use Rattle.layers.specs.Calls.{full, rebuilding}
@@ -15,10 +14,10 @@ use Rattle.header.specs.declared.Refusal.{Refusal}
 use Rattle.header.specs.Refusals.{refusal, detailsOf}
 use Rattle.header.specs.Plan.{noPlan, loads, firstOver}
 use Rattle.header.specs.Opening.{Opening, opening}
-use Rattle.order.specs.CardOrder.{wholePlan}
+use Rattle.order.specs.CardOrder.{wholeOf}
 use Rattle.figure.specs.Figure.{figureOf, boundOf}
 use Rattle.card.specs.declared.Reached.{Reached}
-use Rattle.loading.specs.Loading.{slots, slotLayer, firstBad, coefsRead}
+use Rattle.loading.specs.InBytes.{slots, slotLayer, firstBad, coefsRead}
 
 -- what reading answers and the caller's slices afterwards. Beside a refusal the plan and the figure are 0 and nothing has changed
 pub record Reading : Type 0 where
@@ -27,10 +26,6 @@ pub record Reading : Type 0 where
   pub figure : ℕ
   pub coefficients : List ℤ
   pub values : List ℤ
-
--- the planes that are whole in the bytes
-abbrev pub wholeOf : List ℕ → Header → ℕ → Plan
-wholeOf bs h long = wholePlan h (length bs - long)
 
 -- "9, a layer asks more planes than are whole, or a place past the last layer is not 0 (detail: first such place)"
 abbrev pub planRefusal : ℕ → Details

@@ -13,8 +13,9 @@ use Rattle.header.specs.Header.{planesOf}
 use Rattle.header.specs.Plan.{loads, withPlane}
 use Rattle.header.specs.Opening.{opening}
 use Rattle.figure.specs.Figure.{figureOf}
+use Rattle.order.specs.CardOrder.{wholeOf}
 use Rattle.packing.specs.Planes.{allHeld}
-use Rattle.loading.specs.Loading.{fine, coefsWith}
+use Rattle.loading.specs.InBytes.{fine, coefsWith}
 use Rattle.card.specs.Reading.{Reading}
 use Rattle.card.specs.Reading as R
 
@@ -36,7 +37,7 @@ module _ (qs vs : List ℤ) where
   -- planes are at most the header's, so one test serves the last two; then "11, a coefficient outside the 23-digit range"
   abbrev pub refineLayer : List ℕ → Header → ℕ → Plan → ℕ → Reading
   refineLayer bs h long plan k =
-      cond (ltb k (layers (h .shape)) && ltb (loads plan k) (loads (R.wholeOf bs h long) k))
+      cond (ltb k (layers (h .shape)) && ltb (loads plan k) (loads (wholeOf bs h long) k))
       (cond (allHeld qs)
       (refinePlane h long bs plan k (planesOf h k - suc (loads plan k)))
       (R.no qs vs (refusal 11 0 0)))
@@ -44,7 +45,7 @@ module _ (qs vs : List ℤ) where
 
   -- "3; 9 (the plan as above, ..)": checked as a reading is
   unfoldable pub refineOpened : List ℕ → Header → ℕ → Plan → ℕ → Reading
-  refineOpened bs h long plan k = R.unless qs vs (R.firstRefusal qs vs h (R.wholeOf bs h long) plan) (refineLayer bs h long plan k)
+  refineOpened bs h long plan k = R.unless qs vs (R.firstRefusal qs vs h (wholeOf bs h long) plan) (refineLayer bs h long plan k)
 
   unfoldable pub refining : List ℕ → Plan → ℕ → Reading
   refining bs plan k = R.afterOpening qs vs (opening bs) (λ h long. refineOpened bs h long plan k)

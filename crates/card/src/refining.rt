@@ -8,6 +8,7 @@ ghost use Rattle.header.specs.Header as Hd;
 ghost use Rattle.header.specs.Plan as N;
 ghost use Rattle.header.specs.Opening as O;
 ghost use Rattle.header.specs.Refusals.{detailsOf};
+ghost use Rattle.order.specs.CardOrder.{wholeOf};
 ghost use Rattle.card.specs.Reading as R;
 ghost use Rattle.card.specs.Refining as F;
 use crate::Reached;
@@ -53,7 +54,7 @@ fn refine_layer(
     coefficients: &mut [i32],
     values: &mut [i64],
 ) -> Reached
-    requires { ⌜ (O.right header ≡ true) × (at ≤ length (now bytes)) × (whole ≡ R.wholeOf (now bytes) header at) ⌝ }
+    requires { ⌜ (O.right header ≡ true) × (at ≤ length (now bytes)) × (whole ≡ wholeOf (now bytes) header at) ⌝ }
     requires { ⌜ (R.goodLengths (now coefficients) (now values) header ≡ true) × (N.firstOver (Hd.planesOf header) (N.loads plan) ≡ layersMost) ⌝ }
     ensures { λ r. ⌜ R.told r (now (coefficients .exit)) (now (values .exit)) ≡ F.refineLayer (now (coefficients .entry)) (now (values .entry)) (now (bytes .entry)) header at plan layer ⌝ }
 {

@@ -18,8 +18,9 @@ use Rattle.header.specs.declared.Header.{Header}
 use Rattle.header.specs.Header.{ascii}
 use Rattle.header.specs.Plan.{loads}
 use Rattle.header.specs.Opening.{opening}
-use Rattle.loading.specs.Loading.{firstBad, slots, coefsRead}
-use Rattle.card.specs.Reading.{showing, readOpened, firstRefusal, wholeOf}
+use Rattle.order.specs.CardOrder.{wholeOf}
+use Rattle.loading.specs.InBytes.{firstBad, slots, coefsRead}
+use Rattle.card.specs.Reading.{showing, readOpened, firstRefusal}
 use Rattle.card.proofs.ReadCall.{good-lengths, checked-passes}
 use Rattle.display.specs.declared.Shown.{Shown}
 use Rattle.display.specs.Shown.{loadedText, rowsText, textOf, room, seen, shownOf, valuesOf, shownText, valuePiece, sheetLines, pieceAt, pieces, inOrder}

@@ -8,7 +8,7 @@ use lib.Dec.{eqb}
 use Rattle.integers.specs.Floor.{ceilDiv}
 use Rattle.sheet.specs.declared.Curve.{Curve}
 use Rattle.sheet.specs.declared.Curve.the-variants.{Linear, Cubic}
-use Rattle.sheet.specs.Lines.{sizing}
+use Rattle.sheet.specs.Sheet.{sizeAt}
 use Rattle.layers.specs.Carry.{carried, carry}
 use Rattle.sheet.specs.Limits.{layersMost}
 use Rattle.layers.proofs.Carry.{carried-rising}
@@ -28,7 +28,7 @@ carried-double Cubic m = omega arith
 module _ (h : Header) (k : ℕ) where
   rule-carries : (m : ℕ) → carried (ruleOf h k .curve) m ≡ carryOf h k m
   unfolding ruleOf carryOf carried
-  rule-carries m = step (eqb (sizing (h .shape) k) 0)
+  rule-carries m = step (eqb (sizeAt (h .shape) k) 0)
     where
       step : (t : Bool) → carried (cond t Linear (h .curve)) m ≡ cond t m (carry (h .shape) (h .curve) k m)
       step true = refl
@@ -44,7 +44,7 @@ module _ (h : Header) (k : ℕ) where
 
   pub carry-rising : (a b : ℕ) → a < b → carryOf h k a < carryOf h k b
   unfolding carryOf
-  carry-rising a b l = step (eqb (sizing (h .shape) k) 0)
+  carry-rising a b l = step (eqb (sizeAt (h .shape) k) 0)
     where
       step : (t : Bool) → cond t a (carry (h .shape) (h .curve) k a) < cond t b (carry (h .shape) (h .curve) k b)
       step true = l

@@ -6,10 +6,9 @@ use native.Mathlib.Decide.{decLt, ℕ-discrete}
 use native.Mathlib.Omega.{arith}
 use borrow.Author.Tests.{ne-eqb}
 use Rattle.digits.proofs.Losses.{loss-none}
-use Rattle.sheet.specs.Lines.{sizing}
+use Rattle.sheet.specs.Sheet.{sizeAt, layers, layerSize}
 use Rattle.layers.specs.Carry as C
 use Rattle.sheet.specs.Limits.{layersMost}
-use Rattle.sheet.specs.Sheet.{layers, layerSize}
 use Rattle.layers.proofs.Standing.{standing-empty, standing-more}
 use Rattle.header.specs.declared.Header.{Header}
 use Rattle.header.specs.Header.{planesOf}
@@ -25,17 +24,17 @@ standing h n (suc k) = carryOf h k (standing h n k) + chargeOf h k (n k)
 
 module _ {h : Header} (r : Right h) (n : ℕ → ℕ) where
   -- a layer without points
-  still : (k : ℕ) → sizing (h .shape) k ≡ 0 → planesOf h k ≡ 0 → standing h n (suc k) ≡ standing h n k
+  still : (k : ℕ) → sizeAt (h .shape) k ≡ 0 → planesOf h k ≡ 0 → standing h n (suc k) ≡ standing h n k
   unfolding standing carryOf chargeOf
   still k s e =
       let z : planesOf h k - n k ≡ 0 = omega arith in
       rw (s, z, loss-none) (omega arith)
 
   -- any other
-  moved : (k : ℕ) → (sizing (h .shape) k ≡ 0 → ⊥)
+  moved : (k : ℕ) → (sizeAt (h .shape) k ≡ 0 → ⊥)
       → standing h n (suc k) ≡ C.carry (h .shape) (h .curve) k (standing h n k) + ownLoss h n k
   unfolding standing carryOf chargeOf
-  moved k s = rw (ne-eqb (sizing (h .shape) k) 0 s)
+  moved k s = rw (ne-eqb (sizeAt (h .shape) k) 0 s)
 
   stands : (k : ℕ) → k ≤ layers (h .shape) → standing h n k ≡ C.standing (h .shape) (h .curve) (ownLoss h n) k
   stands zero l = unfold standing C.standing in refl

@@ -5,11 +5,10 @@ use Prim.Native.Nat.{ℕ, _+_, _*_, _-_, _^_, min}
 use lib.Dec.{ltb, leb, eqb}
 use Rattle.digits.specs.Digits as D
 use Rattle.sheet.specs.declared.Curve.the-variants.{Linear}
-use Rattle.sheet.specs.Lines.{sizing}
+use Rattle.sheet.specs.Sheet.{sizeAt, layers}
 use Rattle.layers.specs.Carry as C
 use Rattle.sheet.specs.Limits.{layersMost, stepMost}
 use Rattle.layers.specs.Prediction.{width}
-use Rattle.sheet.specs.Sheet.{layers}
 use Rattle.header.specs.declared.Header.{Header}
 use Rattle.header.specs.declared.Plan.{Plan}
 use Rattle.header.specs.declared.Details.{Details}
@@ -41,7 +40,7 @@ boundOf h plan =
 -- ---- a layer by itself: what planning asks of it
 -- the rule by which layer k of a header carries: an empty layer, and one that is not there, changes nothing, as the linear curve does
 unfoldable pub ruleOf : Header → ℕ → Rule
-ruleOf h k = record { curve = cond (eqb (sizing (h .shape) k) 0) Linear (h .curve) }
+ruleOf h k = record { curve = cond (eqb (sizeAt (h .shape) k) 0) Linear (h .curve) }
 
 -- what a rule carries M to, as the call answers it: the largest number where that does not fit
 abbrev pub carriedIn : Rule → ℕ → ℕ
@@ -49,7 +48,7 @@ carriedIn rule m = min (C.carried (rule .curve) m) (2 ^ 64 - 1)
 
 -- what layer k carries M to
 unfoldable pub carryOf : Header → ℕ → ℕ → ℕ
-carryOf h k m = cond (eqb (sizing (h .shape) k) 0) m (C.carry (h .shape) (h .curve) k m)
+carryOf h k m = cond (eqb (sizeAt (h .shape) k) 0) m (C.carry (h .shape) (h .curve) k m)
 
 -- what it adds of its own where n of its planes are loaded
 unfoldable pub chargeOf : Header → ℕ → ℕ → ℕ

@@ -19,7 +19,7 @@ use Rattle.header.specs.Refusals.{refusal}
 use Rattle.header.proofs.Opens.{Opens}
 use Rattle.header.proofs.Rightness.{Right}
 use Rattle.packing.specs.Planes.{body, cardOf}
-use Rattle.loading.specs.Loading.{coefsRead}
+use Rattle.loading.specs.InBytes.{coefsRead}
 use Rattle.card.specs.Reading.{Reading}
 use Rattle.loading.proofs.Loads.{coefs-long}
 use Rattle.card.proofs.ReadCall.{readAs}

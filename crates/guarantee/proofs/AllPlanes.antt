@@ -23,7 +23,7 @@ use Rattle.header.specs.declared.Header.{Header}
 use Rattle.header.specs.Header.{placesMost, cellPoints, planesOf, planeCells, cellsOf}
 use Rattle.header.proofs.Rightness.{Right, counts-few, counts-past}
 use Rattle.packing.specs.Planes.{planeBit, allBelow, enough, planesFor, countsFor, headerFor}
-use Rattle.loading.specs.Loading.{bitOf, clean, hasOne, fine, coefsRead}
+use Rattle.loading.specs.InBytes.{bitOf, clean, hasOne, fine, coefsRead}
 use Rattle.packing.proofs.All.{all-by, all-at}
 use Rattle.packing.proofs.Cards.{counts-at}
 use Rattle.packing.proofs.HeldLayers.{enough-yes, enough-by}

@@ -12,7 +12,7 @@ use Rattle.header.specs.Header.{cellBytes, cellPoints, planeCells}
 use Rattle.order.specs.CardOrder.{cellsBefore}
 use Rattle.header.proofs.Rightness.{Right, few-planes}
 use Rattle.packing.specs.Planes.{body}
-use Rattle.loading.specs.Loading.{bitAt, bitOf}
+use Rattle.loading.specs.InBytes.{bitAt, bitOf}
 use Rattle.packing.proofs.BodyOrder.{body-small, body-length}
 use Rattle.loading.proofs.CardBits.{card-bit}
 use Rattle.packing.proofs.Packing.{bits-above}

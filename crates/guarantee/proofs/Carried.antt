@@ -14,7 +14,7 @@ use Rattle.header.specs.Header.{cellPoints, planesOf, planeCells}
 use Rattle.header.specs.Plan.{loads}
 use Rattle.header.proofs.Total.{plane-room}
 use Rattle.packing.specs.Planes.{planeBit}
-use Rattle.loading.specs.Loading.{bitOf}
+use Rattle.loading.specs.InBytes.{bitOf}
 
 pub record Carries (h : Header) (long : ℕ) (bs : List ℕ) (qs : List ℤ) (plan : Plan) : Type 0 where
   pub bit : (k p : ℕ) → k < layers (h .shape) → p < planesOf h k → planesOf h k ≤ p + loads plan k

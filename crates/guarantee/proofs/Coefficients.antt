@@ -23,7 +23,7 @@ use Rattle.sheet.proofs.Places.{point-on, point-in, place-point}
 use Rattle.layers.proofs.SheetLaw.{sheet-proper}
 use Rattle.header.specs.declared.Header.{Header}
 use Rattle.header.specs.Header.{planesOf}
-use Rattle.loading.specs.Loading.{bitAt, bitOf, loaded, coefRead, coefsRead}
+use Rattle.loading.specs.InBytes.{bitAt, bitOf, loaded, coefRead, coefsRead}
 use Rattle.loading.proofs.LayerPlanes.{loaded-by, loaded-no}
 
 binary-tabulate : (n : ℕ) (f : ℕ → ℕ) → ((p : ℕ) → f p < 2) → Binary (tabulate n f)

@@ -19,7 +19,7 @@ use Rattle.header.proofs.HeaderLines.{accepting}
 use Rattle.header.proofs.Cut.{cut-behind}
 use Rattle.order.proofs.Whole.{whole-fits, counted-whole}
 use Rattle.packing.specs.Planes.{planeBit, headerFor, body, cardOf}
-use Rattle.loading.specs.Loading.{bitAt, bitOf}
+use Rattle.loading.specs.InBytes.{bitAt, bitOf}
 use Rattle.packing.proofs.BodyOrder.{body-length}
 use Rattle.loading.proofs.CardBits.{card-bit}
 use Rattle.guarantee.proofs.Carried.{Carries}

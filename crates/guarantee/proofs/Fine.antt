@@ -20,7 +20,7 @@ use Rattle.header.specs.Header.{cellPoints, planesOf, planeCells}
 use Rattle.header.specs.Plan.{loads}
 use Rattle.header.proofs.Rightness.{layers-few}
 use Rattle.packing.specs.Planes.{planeBit, allBelow, headerFor}
-use Rattle.loading.specs.Loading.{bitOf, clean, hasOne, fine}
+use Rattle.loading.specs.InBytes.{bitOf, clean, hasOne, fine}
 use Rattle.packing.proofs.All.{all-by, all-at}
 use Rattle.packing.proofs.Cards.{counts-at}
 use Rattle.guarantee.proofs.Carried.{Carries, carried-digit}

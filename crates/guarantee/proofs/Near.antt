@@ -25,7 +25,7 @@ use Rattle.header.specs.Plan.{loads}
 use Rattle.figure.specs.Figure.{figureOf}
 use Rattle.header.proofs.Rightness.{layers-few}
 use Rattle.packing.specs.Planes.{headerFor}
-use Rattle.loading.specs.Loading.{coefRead, coefsRead}
+use Rattle.loading.specs.InBytes.{coefRead, coefsRead}
 use Rattle.packing.proofs.Cards.{counts-at}
 use Rattle.card.proofs.ReadCall.{readAs}
 use Rattle.guarantee.specs.Guarantee.{Gives}

@@ -18,6 +18,7 @@ use Rattle.sheet.specs.Sheet.{points, layers, inLayer, placeIn}
 use Rattle.sheet.proofs.Lists.{length-tabulate, getD-tabulate}
 use Rattle.layers.proofs.Members.{in-own, own-below}
 use Rattle.layers.proofs.SheetLaw.{sheet-proper}
+use Rattle.layers.specs.Layering.{ownLayer}
 use Rattle.header.specs.declared.Header.{Header}
 use Rattle.header.specs.declared.Plan.{Plan}
 use Rattle.header.specs.Header.{planesOf}
@@ -25,8 +26,7 @@ use Rattle.header.specs.Plan.{loads, withPlane}
 use Rattle.order.specs.CardOrder.{whole}
 use Rattle.header.proofs.Rightness.{Right, right-by, layers-few}
 use Rattle.order.proofs.Whole.{whole-most}
-use Rattle.packing.specs.Planes.{ownLayer}
-use Rattle.loading.specs.Loading.{bitOf, fine, coefRead, coefsRead, coefsPlus, coefsWith}
+use Rattle.loading.specs.InBytes.{bitOf, fine, coefRead, coefsRead, coefsPlus, coefsWith}
 use Rattle.loading.proofs.Loads.{coefs-long}
 use Rattle.card.proofs.RefineCall.{with-is, with-other}
 use Rattle.guarantee.proofs.Coefficients.{coef-next, coef-at}

@@ -15,7 +15,7 @@ use Rattle.header.specs.Plan.{firstOver}
 use Rattle.order.specs.CardOrder.{cellsBefore, isWhole, whole}
 use Rattle.figure.specs.Figure.{figureOf}
 use Rattle.packing.specs.Planes.{allBelow}
-use Rattle.loading.specs.Loading.{bitAt, clean, hasOne, fine, badSlot, firstBad, coefRead, coefsRead}
+use Rattle.loading.specs.InBytes.{bitAt, clean, hasOne, fine, badSlot, firstBad, coefRead, coefsRead}
 use Rattle.planner.specs.Planning.{withUpTo, eachUpTo, listsUpTo, plansOf, before, better, bestOf, bestByLimit, bestByCells}
 use Rattle.guarantee.specs.Bench.{card, Bench}
 use Rattle.guarantee.proofs.RowsOpened.{openings}

@@ -24,10 +24,11 @@ use Rattle.header.specs.Plan.{loads}
 use Rattle.header.specs.Opening.{opening}
 use Rattle.header.proofs.Over.{none-over}
 use Rattle.header.proofs.Worked.{benchHeader}
+use Rattle.order.specs.CardOrder.{wholeOf}
 use Rattle.packing.specs.Planes.{allBelow, packed, planeBit, planeBytes, atPlace, downFrom, body, enough, planesFor, countsFor, cardOf}
 use Rattle.card.specs.Writing.{outputLeast, badSizes, done, writing}
-use Rattle.loading.specs.Loading.{firstBad}
-use Rattle.card.specs.Reading.{Reading, wholeOf, readWhole, readOpened, showing}
+use Rattle.loading.specs.InBytes.{firstBad}
+use Rattle.card.specs.Reading.{Reading, readWhole, readOpened, showing}
 use Rattle.card.specs.Reading as R
 use Rattle.card.proofs.ReadCall.{lengths-good, checked-none}
 use Rattle.planner.specs.Planning.{bestByLimit, bestByCells, found, byLimit, byCells}

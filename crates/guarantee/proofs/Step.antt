@@ -18,10 +18,10 @@ use Rattle.header.specs.declared.Details.{Details}
 use Rattle.header.specs.Refusals.{refusal}
 use Rattle.header.specs.Header.{planesOf}
 use Rattle.header.specs.Plan.{loads, withPlane}
-use Rattle.order.specs.CardOrder.{whole, wholePlan}
+use Rattle.order.specs.CardOrder.{whole, wholePlan, wholeOf}
 use Rattle.header.proofs.Rightness.{Right, layers-few}
 use Rattle.packing.specs.Planes.{allHeld}
-use Rattle.loading.specs.Loading.{fine, coefsRead}
+use Rattle.loading.specs.InBytes.{fine, coefsRead}
 use Rattle.card.specs.Reading.{Reading}
 use Rattle.card.specs.Reading as R
 use Rattle.card.specs.Refining.{refineOpened}
@@ -74,7 +74,7 @@ module _ (h : Header) (long : ℕ) (bs : List ℕ) where
         let limit = loads (wholePlan h (length bs - long)) in
         let there = ltb k (layers (h .shape)) in
         let further = ltb (loads plan k) (limit k) in
-        let check = R.firstRefusal coefficients (rebuild coefficients) h (R.wholeOf bs h long) plan in
+        let check = R.firstRefusal coefficients (rebuild coefficients) h (wholeOf bs h long) plan in
         choice Kept (eqb (check .number) 0)
         (λ _. choice Kept (there && further)
         (λ e.

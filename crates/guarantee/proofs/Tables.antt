@@ -4,7 +4,7 @@ use native.Mathlib.Omega.{arith}
 use lib.IntN.{negℤ}
 use Rattle.digits.proofs.Groups.{entry-is, entry-sum, by-groups}
 use Rattle.header.proofs.Rightness.{right-yes, few-planes}
-use Rattle.loading.specs.Loading.{wordRead}
+use Rattle.loading.specs.InBytes.{wordRead}
 use Rattle.loading.proofs.ReadWords.{number-read, word-small}
 use Rattle.guarantee.specs.Groups.{Groups}
 

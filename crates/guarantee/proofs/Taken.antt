@@ -18,13 +18,13 @@ use Rattle.header.specs.declared.Plan.{Plan}
 use Rattle.header.specs.Header.{planesOf}
 use Rattle.header.specs.Plan.{loads, firstOver}
 use Rattle.header.specs.Opening.{Opening, opening}
-use Rattle.order.specs.CardOrder.{whole, wholePlan}
+use Rattle.order.specs.CardOrder.{whole, wholePlan, wholeOf}
 use Rattle.header.proofs.HeaderLines.{accepting, lines-of, opening-of}
 use Rattle.header.proofs.Opens.{Opens, opened-right}
 use Rattle.header.proofs.Over.{none-over}
 use Rattle.header.proofs.Rightness.{Right, right-yes, few-planes}
-use Rattle.loading.specs.Loading.{fine, loaded, slotLayer, slotPlace, badSlot, slots, firstBad}
-use Rattle.card.specs.Reading.{wholeOf, firstRefusal, readOpened, reading}
+use Rattle.loading.specs.InBytes.{fine, loaded, slotLayer, slotPlace, badSlot, slots, firstBad}
+use Rattle.card.specs.Reading.{firstRefusal, readOpened, reading}
 use Rattle.loading.proofs.Loads.{within}
 use Rattle.card.proofs.ReadCall.{readAs, lengths-good, good-lengths, checked-none, checked-passes}
 use Rattle.loading.specs.Words.{slotNo}

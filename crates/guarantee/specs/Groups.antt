@@ -10,7 +10,7 @@ use Rattle.digits.specs.Digits.{value, bitsOf, groupValues, byGroups}
 use Rattle.sheet.specs.Sheet.{layers}
 use Rattle.header.specs.declared.Header.{Header}
 use Rattle.header.specs.Opening.{right}
-use Rattle.loading.specs.Loading.{coefRead, wordRead}
+use Rattle.loading.specs.InBytes.{coefRead, wordRead}
 
 pub record Groups : Type 0 where
   -- each entry is the sum of its eight digits

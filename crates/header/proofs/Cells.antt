@@ -9,10 +9,9 @@ use lib.ListN.{getD, List·getD-eq-default}
 use borrow.Author.Tests.{lt-ltb, le-ltb}
 use Rattle.integers.specs.Floor.{ceilDiv}
 use Rattle.sheet.specs.declared.Shape.{Shape}
-use Rattle.sheet.specs.Lines.{sizing}
+use Rattle.sheet.specs.Sheet.{sizeAt, accepted, layers, layerSize}
 use Rattle.sheet.specs.Lists.{total}
 use Rattle.sheet.specs.Limits.{pointsMost, layersMost}
-use Rattle.sheet.specs.Sheet.{accepted, layers, layerSize}
 use Rattle.sheet.proofs.Accepting.{accepted-yes, layers-few}
 use Rattle.integers.proofs.Bools.{by, and-left}
 use Rattle.sheet.proofs.Lists.{length-tabulate, getD-tabulate, getD-zeros}
@@ -21,25 +20,25 @@ use Rattle.header.specs.Header.{cellPoints, planeCells, cellsAt, spansOf
 use Rattle.header.specs.Plan.{noPlan, loads}
 use Rattle.header.proofs.Totals.{total-same, total-past, total-none}
 
-pub sizing-most : (sh : Shape) (k : ℕ) → sizing sh k ≤ pointsMost
-unfolding sizing
+pub sizing-most : (sh : Shape) (k : ℕ) → sizeAt sh k ≤ pointsMost
+unfolding sizeAt
 sizing-most sh k =
     by (accepted sh && ltb k (layers sh))
     (λ t. rw t (omega (arith, size-most sh k, accepted-yes sh (and-left _ _ t) .small)))
     (λ t. rw t (omega arith))
 
-pub cells-sized : (sh : Shape) (k : ℕ) → cellsAt sh k ≡ ceilDiv (sizing sh k) cellPoints
-unfolding cellsAt sizing planeCells ceilDiv
+pub cells-sized : (sh : Shape) (k : ℕ) → cellsAt sh k ≡ ceilDiv (sizeAt sh k) cellPoints
+unfolding cellsAt sizeAt planeCells ceilDiv
 cells-sized sh k = by (accepted sh && ltb k (layers sh)) (λ t. rw t) (λ t. rw t)
 
 -- ---- of an accepted shape
 module _ (sh : Shape) (ok : accepted sh ≡ true) (k : ℕ) where
-  pub size-there : k < layers sh → sizing sh k ≡ layerSize sh k
-  unfolding sizing
+  pub size-there : k < layers sh → sizeAt sh k ≡ layerSize sh k
+  unfolding sizeAt
   size-there h = simp (ok, lt-ltb k (layers sh) h)
 
-  pub size-past : layers sh ≤ k → sizing sh k ≡ 0
-  unfolding sizing
+  pub size-past : layers sh ≤ k → sizeAt sh k ≡ 0
+  unfolding sizeAt
   size-past h = simp (ok, le-ltb k (layers sh) h)
 
   pub cells-there : k < layers sh → cellsAt sh k ≡ planeCells sh k

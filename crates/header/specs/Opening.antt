@@ -56,7 +56,7 @@ taking n (L.Number v long) go = go v long
 abbrev pub same : List ℕ → List ℕ → Bool
 same key l = starts key l && eqb (length key) (length l)
 
--- line 4: 0 for linear and 1 for cubic
+-- ---- line 4: 0 for linear and 1 for cubic
 unfoldable pub curveLine : List ℕ → Line
 curveLine l =
     cond (hasEnd l)
@@ -68,7 +68,7 @@ curveLine l =
 abbrev pub curveOf : ℕ → Curve
 curveOf v = cond (eqb v 0) Linear Cubic
 
--- line 6: "planes (the P_k, commas between)"; wrong are "a count over 23, a wrong number of counts or a count above 0 for an empty layer"
+-- ---- line 6: "planes (the P_k, commas between)"; wrong are "a count over 23, a wrong number of counts or a count above 0 for an empty layer"
 -- the most planes that layer k may have; none past the last layer
 unfoldable pub planesMost : Shape → ℕ → ℕ
 planesMost sh k = cond (ltb k (layers sh) && not (eqb (layerSize sh k) 0)) placesMost 0

@@ -63,6 +63,7 @@ pub struct Plan {
     pub planes: [u64; MOST_LAYERS],
 }
 
+// What a header says: a count of planes for each layer, 0 past the last, and the cells of all of them.
 pub struct Header {
     pub shape: Shape,
     pub curve: Curve,
@@ -84,6 +85,7 @@ pub struct HeaderText {
     pub length: usize,
 }
 
+// Document 01's number and details of a refusal.
 pub fn details_of(refusal: Refusal) -> Details
     ensures { λ r. ⌜ r ≡ R.detailsOf refusal ⌝ }
 {

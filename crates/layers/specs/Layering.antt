@@ -8,6 +8,7 @@ use lib.IntN.{ℤ, pos}
 use lib.ListN.{length, replicate}
 use Rattle.sheet.specs.declared.Shape.{Shape}
 use Rattle.sheet.specs.declared.Curve.{Curve}
+use Rattle.sheet.specs.declared.Curve.the-variants.{Linear}
 use Rattle.sheet.specs.Lists.{at, tabulate}
 use Rattle.sheet.specs.Sheet.{points, layers, inLayer}
 use Rattle.layers.specs.Prediction.{predictedAt, coefficientOf, rebuiltFrom}
@@ -35,6 +36,10 @@ lastIn Y (suc k) p = cond (Y .mem k p) k (lastIn Y k p)
 
 abbrev pub layerNo : Layering → ℕ → ℕ
 layerNo Y p = lastIn Y (Y .layers) p
+
+-- that of a sheet's point; it is the same for both curves
+abbrev pub ownLayer : Shape → ℕ → ℕ
+ownLayer sh p = layerNo (layering sh Linear) p
 
 -- layer k, all of its points at once: g gives a point's new number from what is predicted there, and every other point keeps its own
 unfoldable pub pointBy : Layering → ℕ → (ℤ → ℕ → ℤ) → List ℤ → List ℤ → ℕ → ℤ

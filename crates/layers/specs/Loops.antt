@@ -1,4 +1,5 @@
--- What the loops work with: a layer as a grid, and the bounds that keep every sum within an i64.
+-- What the loops work with: the lines that cross a row, the parts of a layer, and the bounds that keep every sum within an i64. A layer's grid is in
+-- `sheet`, Lines.
 use mathlib.Core.Bool.{Bool, true, false, cond}
 use mathlib.Core.List.{List}
 use mathlib.Core.Path.{_≡_}

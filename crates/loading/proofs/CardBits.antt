@@ -12,7 +12,7 @@ use Rattle.header.specs.Header.{placesMost, cellBytes, cellPoints, planesOf, pl
 use Rattle.order.specs.CardOrder.{cellsBefore}
 use Rattle.packing.specs.Planes.{planeBit, body}
 use Rattle.packing.proofs.BodyOrder.{plane-bit, body-byte}
-use Rattle.loading.specs.Loading.{bitAt, bitOf}
+use Rattle.loading.specs.InBytes.{bitAt, bitOf}
 
 module _ (h : Header) (qs : List ℤ) (few : (k : ℕ) → k < layers (h .shape) → planesOf h k ≤ placesMost) (k p : ℕ) (hk : k < layers (h .shape)) (hp : p < planesOf h k) where
   pub card-bit : (front : List ℕ) (i : ℕ) → i < cellPoints * planeCells (h .shape) k

@@ -12,7 +12,7 @@ use Rattle.header.specs.declared.Header.{Header}
 use Rattle.header.specs.Header.{planesOf}
 use Rattle.header.specs.Plan.{loads}
 use Rattle.order.specs.CardOrder.{whole, wholePlan}
-use Rattle.loading.specs.Loading.{loaded}
+use Rattle.loading.specs.InBytes.{loaded}
 
 pub whole-at : (h : Header) (n k : ℕ) → k < layersMost → loads (wholePlan h n) k ≡ whole h n k
 whole-at h n k l = getD-tabulate layersMost (whole h n) k 0 l

@@ -28,7 +28,7 @@ use Rattle.header.proofs.Over.{over-none, none-over}
 use Rattle.header.proofs.Rightness.{right-yes, layers-few}
 use Rattle.order.proofs.Whole.{whole-fits, fits-whole, whole-most, counted-whole}
 use Rattle.packing.specs.Planes.{allHeld}
-use Rattle.loading.specs.Loading.{fine, slots, firstBad, coefsRead, coefsPlus, coefsWith}
+use Rattle.loading.specs.InBytes.{fine, slots, firstBad, coefsRead, coefsPlus, coefsWith}
 use Rattle.loading.specs.Words.{AllThere, loadedAs, fineAt}
 use Rattle.loading.specs.Calls.{Loading, told, no, done, loadable, loadingWhole, loading, allWhole, wholeLoaded, there, adding}
 use Rattle.loading.specs.declared.Loaded.the-variants.{Fine, Bad}

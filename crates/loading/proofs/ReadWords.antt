@@ -20,13 +20,13 @@ use Rattle.sheet.proofs.Lists.{length-tabulate, getD-tabulate}
 use Rattle.layers.proofs.Members.{in-own, own-below}
 use Rattle.sheet.proofs.Places.{place-in}
 use Rattle.layers.proofs.SheetLaw.{sheet-proper}
+use Rattle.layers.specs.Layering.{ownLayer}
 use Rattle.header.specs.declared.Header.{Header}
 use Rattle.header.specs.Header.{placesMost, planesOf}
 use Rattle.header.specs.Opening.{right}
 use Rattle.header.proofs.Rightness.{Right, right-yes, few-planes}
 use Rattle.header.proofs.Totals.{total-same}
-use Rattle.packing.specs.Planes.{ownLayer}
-use Rattle.loading.specs.Loading.{bitAt, bitOf, loaded, coefRead, wordRead, coefsRead}
+use Rattle.loading.specs.InBytes.{bitAt, bitOf, loaded, coefRead, wordRead, coefsRead}
 use Rattle.packing.specs.Words.{blockStart}
 use Rattle.loading.specs.Words.{spreadAll, Read}
 use Rattle.loading.proofs.PlaneSums.{at-most}

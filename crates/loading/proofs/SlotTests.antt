@@ -10,7 +10,7 @@ use lib.ListN.{length}
 use Rattle.integers.proofs.Bools.{by, and-left, or-cases}
 use Rattle.header.specs.Header.{cellPoints}
 use Rattle.packing.specs.Planes.{allBelow}
-use Rattle.loading.specs.Loading.{bitAt}
+use Rattle.loading.specs.InBytes.{bitAt}
 use Rattle.loading.specs.Words.{fineAt, asked, slotFine, slotWords, wordsWith}
 use Rattle.packing.proofs.All.{all-at}
 use Rattle.loading.proofs.PlaneSums.{with-length}

@@ -14,11 +14,10 @@ use Rattle.sheet.specs.declared.Shape.{Shape}
 use Rattle.sheet.specs.declared.Curve.the-variants.{Linear}
 use Rattle.sheet.specs.Lists.{at}
 use Rattle.sheet.specs.Sheet.{accepted, points, layers, inLayer, placeIn}
-use Rattle.layers.specs.Layering.{layering, Proper}
+use Rattle.layers.specs.Layering.{layering, Proper, ownLayer}
 use Rattle.sheet.proofs.Lists.{length-tabulate, getD-tabulate}
 use Rattle.layers.proofs.Members.{only-one, in-own, own-below}
 use Rattle.layers.proofs.SheetLaw.{sheet-proper}
-use Rattle.packing.specs.Planes.{ownLayer}
 use Rattle.packing.specs.Words.{blockStart}
 use Rattle.loading.specs.Words.{spreadOver, spreadAll}
 

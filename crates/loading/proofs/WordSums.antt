@@ -18,7 +18,7 @@ use Rattle.header.specs.Header.{placesMost, cellBytes, cellPoints, planesOf, pl
 use Rattle.order.specs.CardOrder.{cellsBefore}
 use Rattle.header.proofs.Totals.{total-same, total-none, total-bump}
 use Rattle.header.proofs.Total.{plane-room}
-use Rattle.loading.specs.Loading.{bitAt, bitOf, clean, hasOne, fine, loaded, badSlot, firstBad, wordRead}
+use Rattle.loading.specs.InBytes.{bitAt, bitOf, clean, hasOne, fine, loaded, badSlot, firstBad, wordRead}
 use Rattle.packing.specs.Words.{blockStart, wordsMost}
 use Rattle.loading.specs.Words.{asked, fineAt, slotFine, slotWords, wordsWith, Read, loadedAs, slotNo, share, Partly}
 use Rattle.loading.specs.declared.Loaded.the-variants.{Fine, Bad}

@@ -11,7 +11,7 @@ use lib.Dec.{ltb, eqb}
 use lib.ListN.{getD}
 use Rattle.integers.proofs.Bools.{by, or-cases, or-left, or-right, not-yes}
 use Rattle.packing.specs.Planes.{allBelow}
-use Rattle.loading.specs.Loading.{bitAt}
+use Rattle.loading.specs.InBytes.{bitAt}
 use Rattle.packing.proofs.All.{all-by, all-at, both-ways}
 
 -- ---- bits of one number

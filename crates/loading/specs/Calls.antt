@@ -16,9 +16,9 @@ use Rattle.header.specs.Refusals.{refusal, detailsOf}
 use Rattle.header.specs.Header.{planesOf}
 use Rattle.header.specs.Plan.{noPlan, loads, firstOver}
 use Rattle.header.specs.Opening.{right}
-use Rattle.order.specs.CardOrder.{isWhole, wholePlan}
+use Rattle.order.specs.CardOrder.{isWhole, wholeOf}
 use Rattle.packing.specs.Planes.{allHeld}
-use Rattle.loading.specs.Loading.{fine, slotLayer, slots, firstBad, coefsRead, coefsWith}
+use Rattle.loading.specs.InBytes.{fine, slotLayer, slots, firstBad, coefsRead, coefsWith}
 
 -- what a call answers, and the coefficients afterwards. Beside a refusal nothing has changed
 pub record Loading : Type 0 where
@@ -40,7 +40,7 @@ unfoldable pub there : List ℕ → Header → ℕ → ℕ → ℕ → Bool
 there bs h long k p = ltb k (layers (h .shape)) && (ltb p (planesOf h k) && isWhole h (length bs - long) k p)
 
 module _ (qs : List ℤ) (bs : List ℕ) (h : Header) (long : ℕ) where
-  -- 3, unless the header is one that opening gives, no longer than the bytes, and there is a coefficient for each point
+  -- can planes be loaded? The header is one that opening gives and no longer than the bytes, and there is a coefficient for each point; otherwise 3
   unfoldable pub loadable : Bool
   loadable = right h && (leb long (length bs) && full (h .shape) qs)
 
@@ -59,14 +59,14 @@ module _ (qs : List ℤ) (bs : List ℕ) (h : Header) (long : ℕ) where
   -- the planes of a plan
   unfoldable pub loading : Plan → Loading
   loading plan =
-      cond loadable (loadingPlan plan (firstOver (loads (wholePlan h (length bs - long))) (loads plan))) (no qs (refusal 3 0 0))
+      cond loadable (loadingPlan plan (firstOver (loads (wholeOf bs h long)) (loads plan))) (no qs (refusal 3 0 0))
 
   -- all planes that are whole, and the plan that they are; that of no planes beside a refusal
   abbrev pub allWhole : Loading
-  allWhole = loading (wholePlan h (length bs - long))
+  allWhole = loading (wholeOf bs h long)
 
   unfoldable pub wholeLoaded : Plan
-  wholeLoaded = cond (eqb (allWhole .refused .number) 0) (wholePlan h (length bs - long)) noPlan
+  wholeLoaded = cond (eqb (allWhole .refused .number) 0) (wholeOf bs h long) noPlan
 
   -- one plane more, that of layer k at place p: 3 as above or where there is no such plane, then "11, a coefficient outside the 23-digit range",
   -- then "8 for the new plane (detail: its layer)"

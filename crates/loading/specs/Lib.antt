@@ -1,3 +1,3 @@
-pub mod Loading
+pub mod InBytes
 pub mod Words
 pub mod Calls

@@ -10,11 +10,12 @@ use Rattle.digits.specs.Digits.{value, bitsOf}
 use Rattle.sheet.specs.declared.Shape.{Shape}
 use Rattle.sheet.specs.Lists.{at, tabulate, total}
 use Rattle.sheet.specs.Sheet.{points, layers, layerSize, placeIn, inLayer}
+use Rattle.layers.specs.Layering.{ownLayer}
 use Rattle.header.specs.declared.Header.{Header}
 use Rattle.header.specs.Header.{placesMost, cellBytes, cellPoints, planeCells}
-use Rattle.packing.specs.Planes.{allBelow, ownLayer}
+use Rattle.packing.specs.Planes.{allBelow}
 use Rattle.packing.specs.Words.{blockStart, wordsMost}
-use Rattle.loading.specs.Loading.{bitAt, bitOf, loaded, slots, slotLayer, badSlot, firstBad, wordRead}
+use Rattle.loading.specs.InBytes.{bitAt, bitOf, loaded, slots, slotLayer, badSlot, firstBad, wordRead}
 use Rattle.loading.specs.declared.Placed.{Placed}
 use Rattle.loading.specs.declared.Placed.the-variants as Placed
 use Rattle.loading.specs.declared.Loaded.{Loaded}

@@ -1,14 +1,14 @@
 // The planes in a card's bytes, loaded into coefficients: those of a plan, all that are whole, or one more.
 mod adding;
 mod loading;
-mod reading;
 mod refining;
 mod spreading;
+mod walking;
 
 use header::Plan;
 use header::Refusal;
-pub use reading::load;
-pub use reading::load_whole;
+pub use loading::load;
+pub use loading::load_whole;
 pub use refining::add_plane;
 
 // What loading all whole planes answers: the plan that they are; that of no planes beside a refusal.

@@ -1,211 +1,108 @@
-// Planes from a card's bytes in card order: checked, and added to the words.
+// The planes of a plan, or all that are whole, to coefficients.
 ghost use mathlib.Core.Path.{_≡_};
-ghost use mathlib.Core.Bool.{true, _||_};
-ghost use lib.Dec.{ltb, eqb};
-ghost use Prim.Native.Nat.{ℕ, _+_, _*_, _-_, _^_, _<_, _≤_};
-ghost use lib.ListN.{length, getD, replicate};
-ghost use Rattle.sheet.specs.Limits.{layersMost};
-ghost use Rattle.sheet.specs.Lists.{tabulate};
-ghost use Rattle.sheet.specs.Lines as C;
-ghost use Rattle.header.specs.Header as Hd;
+ghost use mathlib.Core.Bool.{true};
+ghost use Prim.Native.Nat.{_-_, _≤_};
+ghost use lib.ListN.{length, replicate};
+ghost use Rattle.layers.specs.Calls.{full};
 ghost use Rattle.header.specs.Plan as N;
 ghost use Rattle.header.specs.Opening as O;
-ghost use Rattle.order.specs.CardOrder as K;
-ghost use Rattle.packing.specs.Planes as P;
 ghost use Rattle.packing.specs.Words.{wordsMost};
-ghost use Rattle.loading.specs.Loading as L;
+ghost use Rattle.loading.specs.InBytes as L;
 ghost use Rattle.loading.specs.Words as W;
+ghost use Rattle.loading.specs.Calls as C;
 use crate::Loaded;
-use crate::Placed;
-use crate::adding::HALF_BITS;
-use crate::adding::add_bytes;
-use crate::adding::halved;
-use crate::adding::halves;
-use header::CELL_BYTES;
-use header::CELL_POINTS;
+use crate::Whole;
+use crate::spreading::spread;
+use crate::walking::load_body;
 use header::Header;
-use header::MOST_PLACES;
 use header::Plan;
+use header::Refusal;
+use packing::MOST_WORDS;
 use sheet::MOST_LAYERS;
-use sheet::Shape;
 
-const PLACES: usize = MOST_PLACES as usize;
-
-const LAST_PLACE: usize = PLACES - 1;
-
-// Is every byte of a range 0?
-fn all_zero(bytes: &[u8], from: usize, to: usize) -> bool
-    requires { ⌜ to ≤ length (now bytes) ⌝ }
-    ensures { λ r. ⌜ r ≡ P.allBelow (λ b. eqb (getD (now (bytes .entry)) (from + b) 0) 0) (to - from) ⌝ }
+// Can planes be loaded: behind a header that opening gives, in bytes that have it whole, into a coefficient for each point?
+pub(crate) fn is_loadable(bytes: &[u8], header: Header, at: usize, coefficients: &[i32]) -> bool
+    ensures { λ r. ⌜ r ≡ C.loadable (now (coefficients .entry)) (now (bytes .entry)) header at ⌝ }
 {
-    let mut b = from;
-    while b < to {
-        if bytes[b] != 0 {
-            return false;
-        }
-        b += 1;
-    }
-    true
-}
-
-// Are the spare bits of a plane of n points 0? They begin inside byte n / 8.
-fn spare_zero(bytes: &[u8], from: usize, n: usize, cells: usize) -> bool
-    requires { ⌜ (n ≤ Hd.cellPoints * cells) × (cells ≤ wordsMost) × (from + Hd.cellBytes * cells ≤ length (now bytes)) ⌝ }
-    ensures { λ r. ⌜ r ≡ P.allBelow (λ i. ltb i n || eqb (L.bitAt (now (bytes .entry)) from i) 0) (Hd.cellPoints * cells) ⌝ }
-{
-    let end = from + CELL_BYTES * cells;
-    let part = from + n / 8;
-    if n % 8 == 0 {
-        return all_zero(bytes, part, end);
-    }
-    if bytes[part] >> (n % 8) != 0 {
+    if !header::is_right(header) {
         return false;
     }
-    all_zero(bytes, part + 1, end)
-}
-
-// Is a plane of n points fine: no spare bit set, and a 1 where it is its layer's top plane?
-pub(crate) fn is_fine(bytes: &[u8], from: usize, n: usize, cells: usize, top: bool) -> bool
-    requires { ⌜ (n ≤ Hd.cellPoints * cells) × (cells ≤ wordsMost) × (from + Hd.cellBytes * cells ≤ length (now bytes)) ⌝ }
-    ensures { λ r. ⌜ r ≡ W.fineAt (now (bytes .entry)) from n cells top ⌝ }
-{
-    if !spare_zero(bytes, from, n, cells) {
+    if bytes.len() < at {
         return false;
     }
-    if top {
-        return !all_zero(bytes, from, from + CELL_BYTES * cells);
-    }
-    true
+    coefficients.len() == sheet::points(header.shape)
 }
 
-// One plane of a layer with `count` planes of which `want` are loaded: checked and added where it is one of them; its spare bytes, which are 0, are
-// passed over. False where it is not fine.
-fn load_slot(
-    bytes: &[u8],
-    from: usize,
-    n: usize,
-    cells: usize,
-    count: u64,
-    want: u64,
-    p: u64,
-    table: &[u32; HALF_BITS],
+// The planes of a plan, all of them whole, to coefficients, by way of the words.
+fn load_planes(
     words: &mut [u32],
-    start: usize,
-) -> bool
-    requires { ⌜ (p < Hd.placesMost) × (count ≤ Hd.placesMost) × (n ≤ Hd.cellPoints * cells) × (cells ≤ wordsMost) × (start + Hd.cellPoints * cells ≤ length (now words)) × (now table ≡ W.halves p) ⌝ }
-    requires { ⌜ (W.asked count want p ≡ true → from + Hd.cellBytes * cells ≤ length (now bytes)) × ((i : ℕ) → getD (now words) i 0 < 2 ^ 31) ⌝ }
-    ensures { λ r. ⌜ (r ≡ W.slotFine (now (bytes .entry)) from n cells count want p) × (now (words .exit) ≡ W.slotWords (now (bytes .entry)) from n cells count want p (now (words .entry)) start) ⌝ }
-{
-    if count <= p {
-        return true;
-    }
-    if want < count - p {
-        return true;
-    }
-    if !is_fine(bytes, from, n, cells, p + 1 == count) {
-        return false;
-    }
-    add_bytes(bytes, from, (n + 7) / 8, table, words, start);
-    true
-}
-
-// The points of each layer.
-fn sizes_of(shape: Shape) -> [usize; MOST_LAYERS]
-    ensures { λ r. ⌜ r ≡ tabulate layersMost (C.sizing shape) ⌝ }
-{
-    let mut sizes = [0usize; MOST_LAYERS];
-    for k in 0..MOST_LAYERS {
-        sizes[k] = sheet::layer_size(shape, k);
-    }
-    sizes
-}
-
-// The planes at place p, layer after layer, each checked and added to the words where the plan has it, until one is not fine. `before` cells stand
-// before them.
-fn load_place(
     bytes: &[u8],
-    at: usize,
     header: Header,
-    plan: Plan,
-    sizes: [usize; MOST_LAYERS],
-    spans: [u64; MOST_LAYERS],
-    p: u64,
-    table: &[u32; HALF_BITS],
-    before: usize,
-    words: &mut [u32],
-) -> Placed
-    requires { ⌜ (O.right header ≡ true) × (at ≤ length (now bytes)) × (p < Hd.placesMost) × (before ≡ K.cellsBefore header 0 p) ⌝ }
-    requires { ⌜ (sizes ≡ tabulate layersMost (C.sizing (header .shape))) × (spans ≡ tabulate layersMost (Hd.cellsAt (header .shape))) × (now table ≡ W.halves p) ⌝ }
-    requires { ⌜ W.AllThere header at (now bytes) (N.loads plan) × W.Partly header at (now bytes) (N.loads plan) (W.slotNo header 0 p) (now words) ⌝ }
-    ensures { λ r. ⌜ W.PlaceRead header at (now (bytes .entry)) (N.loads plan) p r (now (words .exit)) ⌝ }
-{
-    let layers = sheet::layer_count(header.shape);
-    let mut cells = before;
-    let mut start: usize = 0;
-    for k in 0..layers {
-        let n = sizes[k];
-        let span = spans[k];
-        let count = header.planes[k];
-        let want = plan.planes[k];
-        let from = at + CELL_BYTES * cells;
-        if !load_slot(
-            bytes,
-            from,
-            n,
-            span as usize,
-            count,
-            want,
-            p,
-            table,
-            words,
-            start,
-        ) {
-            return Placed::Bad(k);
-        }
-        cells += order::span_at(span, count, p) as usize;
-        start += CELL_POINTS * span as usize;
-    }
-    Placed::Fine(cells)
-}
-
-// The planes of a plan in card order, each checked and added to the words, until one is not fine.
-pub(crate) fn load_body(
-    bytes: &[u8],
     at: usize,
-    header: Header,
     plan: Plan,
-    words: &mut [u32],
-) -> Loaded
+    coefficients: &mut [i32],
+) -> Refusal
     requires { ⌜ (O.right header ≡ true) × (at ≤ length (now bytes)) × (now words ≡ replicate wordsMost 0) ⌝ }
+    requires { ⌜ full (header .shape) (now coefficients) ≡ true ⌝ }
     requires { ⌜ W.AllThere header at (now bytes) (N.loads plan) ⌝ }
-    ensures { λ r. ⌜ (r ≡ W.loadedAs header at (now (bytes .entry)) (N.loads plan)) × (r ≡ Loaded.Fine → W.Read header at (now (bytes .entry)) (N.loads plan) (now (words .exit))) ⌝ }
+    ensures { λ r. ⌜ C.told r (now (coefficients .exit)) ≡ C.loadingWhole (now (coefficients .entry)) (now (bytes .entry)) header at plan (L.firstBad header at (now (bytes .entry)) (N.loads plan)) ⌝ }
 {
-    let sizes = sizes_of(header.shape);
-    let spans = header.spans();
-    let mut table = halves(LAST_PLACE as u64);
-    let mut cells: usize = 0;
-    for t in 0..PLACES {
-        let p = (LAST_PLACE - t) as u64;
-        match load_place(
-            bytes,
-            at,
-            header,
-            plan,
-            sizes,
-            spans,
-            p,
-            &table,
-            cells,
-            words,
-        ) {
-            Placed::Bad(layer) => {
-                return Loaded::Bad(layer);
-            }
-            Placed::Fine(next) => {
-                cells = next;
-                table = halved(table);
-            }
+    match load_body(bytes, at, header, plan, words) {
+        Loaded::Bad(layer) => Refusal::BadPlane(layer as u64),
+        Loaded::Fine => {
+            spread(words, header.shape, coefficients);
+            Refusal::Accepted
         }
     }
-    Loaded::Fine
+}
+
+// Loads the planes of a plan into coefficients. A refusal changes nothing.
+pub fn load(
+    bytes: &[u8],
+    header: Header,
+    at: usize,
+    plan: Plan,
+    coefficients: &mut [i32],
+) -> Refusal
+    ensures { λ r. ⌜ C.told r (now (coefficients .exit)) ≡ C.loading (now (coefficients .entry)) (now (bytes .entry)) header at plan ⌝ }
+{
+    if !is_loadable(bytes, header, at, coefficients) {
+        return Refusal::BadLengths;
+    }
+    let whole = order::whole_planes(header, bytes.len() - at);
+    let limit = whole.planes;
+    let wanted = plan.planes;
+    let place = header::first_over(limit, wanted);
+    if place < MOST_LAYERS {
+        return Refusal::BadPlan(place as u64);
+    }
+    let mut words = [0u32; MOST_WORDS];
+    load_planes(&mut words, bytes, header, at, plan, coefficients)
+}
+
+fn none_loaded(refusal: Refusal) -> Whole
+    ensures { λ r. ⌜ (r .refusal ≡ refusal) × (r .plan ≡ N.noPlan) ⌝ }
+{
+    Whole {
+        refusal,
+        plan: Plan {
+            planes: [0; MOST_LAYERS],
+        },
+    }
+}
+
+// Loads all planes that are whole into coefficients, and answers them as a plan. A refusal changes nothing.
+pub fn load_whole(bytes: &[u8], header: Header, at: usize, coefficients: &mut [i32]) -> Whole
+    ensures { λ r. ⌜ (C.told (r .refusal) (now (coefficients .exit)) ≡ C.allWhole (now (coefficients .entry)) (now (bytes .entry)) header at) × (r .plan ≡ C.wholeLoaded (now (coefficients .entry)) (now (bytes .entry)) header at) ⌝ }
+{
+    if !is_loadable(bytes, header, at, coefficients) {
+        return none_loaded(Refusal::BadLengths);
+    }
+    let plan = order::whole_planes(header, bytes.len() - at);
+    let mut words = [0u32; MOST_WORDS];
+    let refusal = load_planes(&mut words, bytes, header, at, plan, coefficients);
+    match refusal {
+        Refusal::Accepted => Whole { refusal, plan },
+        _ => none_loaded(refusal),
+    }
 }

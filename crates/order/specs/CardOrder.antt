@@ -38,6 +38,10 @@ whole h n k = cond (ltb k (layers (h .shape))) (count (isWhole h n k) (planesOf 
 abbrev pub wholePlan : Header → ℕ → Plan
 wholePlan h n = record { planes = tabulate layersMost (whole h n) }
 
+-- in bytes that begin with a header of `long` bytes
+abbrev pub wholeOf : List ℕ → Header → ℕ → Plan
+wholeOf bs h long = wholePlan h (length bs - long)
+
 -- behind a header that opening gives; behind any other none
 unfoldable pub wholeIn : Header → ℕ → Plan
 wholeIn h n = cond (right h) (wholePlan h n) noPlan

@@ -23,11 +23,12 @@ use Rattle.sheet.proofs.Lists.{getD-tabulate}
 use Rattle.layers.proofs.Members.{in-own, own-below}
 use Rattle.sheet.proofs.Places.{place-in, point-place}
 use Rattle.layers.proofs.SheetLaw.{sheet-proper}
+use Rattle.layers.specs.Layering.{ownLayer}
 use Rattle.header.specs.Header.{placesMost}
 use Rattle.header.specs.Plan.{firstOver}
 use Rattle.header.proofs.Over.{over-none, none-over}
 use Rattle.header.proofs.Total.{plane-room}
-use Rattle.packing.specs.Planes.{allBelow, ownLayer, enough, planesFor, allHeld}
+use Rattle.packing.specs.Planes.{allBelow, enough, planesFor, allHeld}
 use Rattle.packing.specs.Words.{wordOf, numberOf, blockStart, Gathered, countOf, countAt}
 use Rattle.packing.proofs.All.{all-at, all-by}
 use Rattle.packing.proofs.Counting.{reach-yes}

@@ -8,6 +8,6 @@ use Rattle.sheet.specs.declared.Curve.{Curve}
 use Rattle.layers.specs.Calls.{settled, full}
 use Rattle.packing.specs.Planes.{cardOf, allHeld}
 
--- the card of coefficients; none where the shape, the step or a coefficient is none of a card's
+-- the card of coefficients; no bytes where the shape or the step is not accepted, there is not one for each point, or 23 digits do not hold one of them
 unfoldable pub cardFor : Shape → Curve → ℕ → List ℤ → List ℕ
 cardFor sh curve e qs = cond (settled sh e && (full sh qs && allHeld qs)) (cardOf sh curve e qs) []

@@ -8,11 +8,9 @@ use lib.ListN.{length}
 use Rattle.digits.specs.Digits.{digitAt, holds, firstFrom}
 use Rattle.sheet.specs.declared.Shape.{Shape}
 use Rattle.sheet.specs.declared.Curve.{Curve}
-use Rattle.sheet.specs.declared.Curve.the-variants.{Linear}
 use Rattle.sheet.specs.Limits.{layersMost}
 use Rattle.sheet.specs.Lists.{at, tabulate}
 use Rattle.sheet.specs.Sheet.{points, layers, inLayer, layerSize, pointOf}
-use Rattle.layers.specs.Layering.{layering, layerNo}
 use Rattle.header.specs.declared.Header.{Header}
 use Rattle.header.specs.Header.{placesMost, cellBytes, planesOf, planeCells, cellsOf, headerText}
 
@@ -20,10 +18,6 @@ use Rattle.header.specs.Header.{placesMost, cellBytes, planesOf, planeCells, ce
 unfoldable pub allBelow : (ℕ → Bool) → ℕ → Bool
 allBelow t zero = true
 allBelow t (suc n) = allBelow t n && t n
-
--- the layer that point p stands in; it is the same for both curves
-abbrev pub ownLayer : Shape → ℕ → ℕ
-ownLayer sh p = layerNo (layering sh Linear) p
 
 -- ---- one plane
 -- the number whose n lowest bits are f 0, f 1, ..

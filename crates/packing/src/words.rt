@@ -1,4 +1,4 @@
-// Coefficients and words: gathered in layer order to be written, spread from it when they are read, and counted for the header.
+// Coefficients to words: gathered in layer order, and counted for the header.
 ghost use mathlib.Core.Path.{_≡_};
 ghost use mathlib.Core.Bool.{true};
 ghost use Prim.Native.Nat.{ℕ, _+_, _*_, _<_, _≤_};
@@ -8,10 +8,8 @@ ghost use Rattle.sheet.specs.Limits.{layersMost};
 ghost use Rattle.sheet.specs.Lists.{at, tabulate};
 ghost use Rattle.sheet.specs.Sheet as S;
 ghost use Rattle.packing.specs.Words as W;
-use digits::GROUPS;
 use header::CELL_POINTS;
 use header::MOST_PLACES;
-use sheet::Lines;
 use sheet::MOST_LAYERS;
 use sheet::Shape;
 

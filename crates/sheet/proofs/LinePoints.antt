@@ -11,10 +11,10 @@ use borrow.Author.Tests.{eq-eqb, eqb-true, lt-ltb}
 use Rattle.sheet.specs.declared.Shape.{Shape}
 use Rattle.sheet.specs.declared.Grid.{Grid}
 use Rattle.sheet.specs.declared.Lines.{Lines}
-use Rattle.sheet.specs.Limits.{pointsMost, depthMost, levelsMost}
+use Rattle.sheet.specs.Limits.{levelsMost}
 use Rattle.sheet.specs.Lists.{count}
 use Rattle.sheet.specs.Sheet.{accepted, points, place, layers, inLayer, layerSize, pointOf, placeIn}
-use Rattle.sheet.specs.Lines.{gridOf, linesOf, oneLine, joined, lineStart, startIn, rowLines, layerLines}
+use Rattle.sheet.specs.Lines.{gridOf, linesOf, oneLine, asOneLine, lineStart, linesMost, startIn, rowLines, layerLines}
 use Rattle.integers.proofs.Bools.{and-both, by}
 use Rattle.sheet.proofs.Accepting.{Sheet, accepted-yes}
 use Rattle.sheet.proofs.Fits.{place-in, rows-small, cols-small}
@@ -27,7 +27,7 @@ use Rattle.sheet.proofs.Size.{count-place, count-steps, count-at, step-
 -- these are the lines of layer k, counted on through the sheets
 pub record Lined (sh : Shape) (k : ℕ) (l : Lines) : Type 0 where
   pub some : 0 < l .stride
-  pub few : l .sheets * l .lines ≤ depthMost * pointsMost
+  pub few : l .sheets * l .lines ≤ linesMost
   pub close : Close l
   pub size : l .sheets * l .lines * l .points ≡ layerSize sh k
   pub point : (t j : ℕ) → t < l .sheets * l .lines → j < l .points → pointOf sh k (t * l .points + j) ≡ lineStart l t + j * l .stride
@@ -37,7 +37,7 @@ pub lines-size : (sh : Shape) (k : ℕ) → linesOf sh k .sheets * linesOf sh k 
 lines-size sh k = sym (layer-size sh k)
 
 -- and not too many lines, even where they have no points
-pub lines-few : (sh : Shape) → Sheet sh → (k : ℕ) → linesOf sh k .sheets * linesOf sh k .lines ≤ depthMost * pointsMost
+pub lines-few : (sh : Shape) → Sheet sh → (k : ℕ) → linesOf sh k .sheets * linesOf sh k .lines ≤ linesMost
 lines-few sh ok k =
     let g = gridOf sh k in
     mul-le-mul (le-trans (steps-most (g .sheet) (g .deep) (sh .depth)) (ok .flat)) (le-trans (steps-most (g .row) (g .down) (sh .rows)) (rows-small ok))
@@ -183,18 +183,18 @@ module _ (sh : Shape) (ok : Sheet sh) (k : ℕ) where
 
 -- both ways of joining
 module _ (l : Lines) where
-  pub joined-is : eqb (l .points) 1 ≡ true → joined l ≡ oneLine l
-  unfolding joined
+  pub joined-is : eqb (l .points) 1 ≡ true → asOneLine l ≡ oneLine l
+  unfolding asOneLine
   joined-is m = rw m
 
-  pub joined-not : eqb (l .points) 1 ≡ false → joined l ≡ l
-  unfolding joined
+  pub joined-not : eqb (l .points) 1 ≡ false → asOneLine l ≡ l
+  unfolding asOneLine
   joined-not m = rw m
 
 pub lined : (sh : Shape) (k : ℕ) (l : Lines) → accepted sh ≡ true → k < layers sh → l ≡ layerLines sh k → Lined sh k l
 lined sh k l ok h is =
     let s = accepted-yes sh ok in
-    subst (Lined sh k) (sym (is ∙ ap joined (lines-here sh k ok h)))
+    subst (Lined sh k) (sym (is ∙ ap asOneLine (lines-here sh k ok h)))
     (by (eqb (linesOf sh k .points) 1)
     (λ m. subst (Lined sh k) (sym (joined-is (linesOf sh k) m)) (one-lined sh s k (eqb-true _ 1 m)))
     (λ m. subst (Lined sh k) (sym (joined-not (linesOf sh k) m)) (rows-lined sh s k)))

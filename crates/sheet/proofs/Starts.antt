@@ -7,12 +7,7 @@ use lib.Dec.{ltb, leb}
 use borrow.Author.Tests.{ltb-true, lt-ltb, leb-true, le-leb}
 use Rattle.integers.proofs.Bools.{and-left, and-right, and-both}
 use Rattle.sheet.specs.declared.Lines.{Lines}
-use Rattle.sheet.specs.Limits.{pointsMost, depthMost}
-use Rattle.sheet.specs.Lines.{lineStart, far, near, startIn}
-
--- the most lines of a layer
-abbrev pub linesMost : ℕ
-linesMost = depthMost * pointsMost
+use Rattle.sheet.specs.Lines.{lineStart, linesMost, far, near, startIn}
 
 -- no number is past any layer's
 pub record Close (l : Lines) : Type 0 where

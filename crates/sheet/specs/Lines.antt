@@ -8,7 +8,7 @@ use Rattle.sheet.specs.declared.Lines.{Lines}
 use Rattle.sheet.specs.declared.Direction.{Direction}
 use Rattle.sheet.specs.declared.Direction.the-variants.{Anchor, Across, Down, Between}
 use Rattle.sheet.specs.Limits.{pointsMost, depthMost, levelsMost}
-use Rattle.sheet.specs.Sheet.{hasLayer, place, direction, spacing, layerSize}
+use Rattle.sheet.specs.Sheet.{hasLayer, place, direction, spacing}
 
 -- ---- a layer as a grid
 abbrev pub gridFor : ℕ → Direction → ℕ → Grid
@@ -20,19 +20,15 @@ gridFor k Between s = record { layer = k; direction = Between; spacing = s; shee
 abbrev pub gridOf : Shape → ℕ → Grid
 gridOf sh k = gridFor k (direction sh k) (spacing sh k)
 
--- the same where the layer may not be there: that of a sheet's only point
+-- the same of any shape and layer: where there is no such layer, the grid of a sheet without levels
 unfoldable pub gridAt : Shape → ℕ → Grid
 gridAt sh k = cond (hasLayer sh k) (gridOf sh k) (gridFor 0 Anchor 1)
-
--- a single column stands in memory as a single row does, and is walked as one
-abbrev pub laid : Shape → Shape
-laid sh = cond (eqb (sh .cols) 1) (record { depth = sh .depth; rows = 1; cols = sh .rows; levels = sh .levels }) sh
 
 -- how many of first, first + stride, .. lie below end
 unfoldable pub steps : ℕ → ℕ → ℕ → ℕ
 steps first stride end = cond (ltb first end) ((end - first - 1) / stride + 1) 0
 
--- and as lines: every row of the grid is one
+-- ---- a layer as lines: every row of the grid is one
 abbrev pub linesOn : Shape → Grid → Lines
 linesOn sh g =
     record {
@@ -52,32 +48,31 @@ linesOf sh k = linesOn sh (gridOf sh k)
 abbrev pub oneLine : Lines → Lines
 oneLine l = record { first = l .first; sheets = l .sheets; beyond = l .beyond; lines = 1; apart = l .apart; points = l .lines; stride = l .apart }
 
-unfoldable pub joined : Lines → Lines
-joined l = cond (eqb (l .points) 1) (oneLine l) l
+unfoldable pub asOneLine : Lines → Lines
+asOneLine l = cond (eqb (l .points) 1) (oneLine l) l
+
+-- of any shape and layer: its rows, as one line where each has one point; a layer that is not there has none
+unfoldable pub rowLines : Shape → ℕ → Lines
+rowLines sh k = cond (hasLayer sh k) (linesOf sh k) (record { first = 0; sheets = 0; beyond = 0; lines = 0; apart = 0; points = 0; stride = 0 })
+
+abbrev pub layerLines : Shape → ℕ → Lines
+layerLines sh k = asOneLine (rowLines sh k)
 
 -- where line t starts, lines counted on through the sheets
 unfoldable pub lineStart : Lines → ℕ → ℕ
 lineStart l t = l .first + t / l .lines * l .beyond + t % l .lines * l .apart
 
--- no number of a layer's lines is larger than this (`LinePoints`)
+-- the most lines of a layer; and no number of its lines is larger than `far` (`LinePoints`)
+abbrev pub linesMost : ℕ
+linesMost = depthMost * pointsMost
+
 abbrev pub far : ℕ
 far = 4 * 2 ^ levelsMost * pointsMost * pointsMost
 
--- are these such lines, and is t one of as many as a layer can have?
+-- are there lines, is t at most the most lines of a layer, and is no number of theirs larger than that?
 unfoldable pub near : Lines → ℕ → Bool
-near l t = ltb 0 (l .lines) && (leb t (depthMost * pointsMost) && (leb (l .first) far && (leb (l .beyond) far && leb (l .apart) far)))
+near l t = ltb 0 (l .lines) && (leb t linesMost && (leb (l .first) far && (leb (l .beyond) far && leb (l .apart) far)))
 
--- where line t starts, whatever the numbers: 0 where one of them is past any layer's
+-- where line t starts, whatever the numbers: 0 where there are no lines or one of the numbers is past any layer's
 unfoldable pub startIn : Lines → ℕ → ℕ
 startIn l t = cond (near l t) (lineStart l t) 0
-
--- ---- the points of a layer; a layer that is not there has none
-unfoldable pub sizing : Shape → ℕ → ℕ
-sizing sh k = cond (hasLayer sh k) (layerSize sh k) 0
-
--- ---- a layer as lines: its rows, joined where each has one point; a layer that is not there has none
-unfoldable pub rowLines : Shape → ℕ → Lines
-rowLines sh k = cond (hasLayer sh k) (linesOf sh k) (record { first = 0; sheets = 0; beyond = 0; lines = 0; apart = 0; points = 0; stride = 0 })
-
-abbrev pub layerLines : Shape → ℕ → Lines
-layerLines sh k = joined (rowLines sh k)

@@ -23,10 +23,15 @@ accepted sh = sized (sh .depth) (sh .rows) (sh .cols) && leb (sh .levels) levels
 abbrev pub sheetOf : ℕ → ℕ → ℕ → Shape
 sheetOf rows cols levels = record { depth = 1; rows = rows; cols = cols; levels = levels }
 
+-- a single column stands in memory as a single row does, and is walked as one
+abbrev pub laid : Shape → Shape
+laid sh = cond (eqb (sh .cols) 1) (record { depth = sh .depth; rows = 1; cols = sh .rows; levels = sh .levels }) sh
+
+-- how many points a sheet has
 abbrev pub points : Shape → ℕ
 points sh = sh .depth * sh .rows * sh .cols
 
--- the same where the shape may be none of a sheet's
+-- the same of any shape: 0 where no sheet has it
 unfoldable pub pointsIn : Shape → ℕ
 pointsIn sh = cond (accepted sh) (points sh) 0
 
@@ -46,7 +51,7 @@ layers sh = 1 + directions sh * sh .levels
 abbrev pub hasLayer : Shape → ℕ → Bool
 hasLayer sh k = accepted sh && ltb k (layers sh)
 
--- how many layers of any numbers at all: no more than a sheet can have
+-- how many layers a shape has, whatever its levels: no more than a sheet can have
 unfoldable pub layerCount : Shape → ℕ
 layerCount sh = min (layers sh) layersMost
 
@@ -90,6 +95,10 @@ inLayer sh k p = has sh k (p / sh .cols / sh .rows) (p / sh .cols % sh .rows) (p
 -- how many points layer k has; it may have none
 unfoldable pub layerSize : Shape → ℕ → ℕ
 layerSize sh k = count (inLayer sh k) (points sh)
+
+-- the same of any shape and layer: a layer that is not there has none
+unfoldable pub sizeAt : Shape → ℕ → ℕ
+sizeAt sh k = cond (hasLayer sh k) (layerSize sh k) 0
 
 -- "A layer's points stand in row order": point i of layer k, and the place of point p among its layer's
 unfoldable pub pointOf : Shape → ℕ → ℕ → ℕ

@@ -104,7 +104,7 @@ pub(crate) fn grid_here(shape: Shape, layer: usize) -> Grid
     grid_for(layer, dir, s)
 }
 
-// The grid of a layer; that of a sheet's only point where there is no such layer.
+// The grid of a layer; that of a sheet without levels where there is no such layer.
 pub fn grid_of(shape: Shape, layer: usize) -> Grid
     ensures { λ g. ⌜ g ≡ L.gridAt shape layer ⌝ }
 {

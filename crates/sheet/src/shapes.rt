@@ -1,7 +1,6 @@
 // Shapes that a sheet can have, and how many layers each has.
 ghost use mathlib.Core.Path.{_≡_};
 ghost use Rattle.sheet.specs.Sheet as S;
-ghost use Rattle.sheet.specs.Lines as L;
 use crate::MOST_DEPTH;
 use crate::MOST_LAYERS;
 use crate::MOST_LEVELS;
@@ -61,7 +60,7 @@ pub fn points(shape: Shape) -> usize
 
 // A single column stands in memory as a single row does, and is walked as one.
 pub fn laid(shape: Shape) -> Shape
-    ensures { λ r. ⌜ r ≡ L.laid shape ⌝ }
+    ensures { λ r. ⌜ r ≡ S.laid shape ⌝ }
 {
     if shape.cols != 1 {
         return shape;

@@ -2,6 +2,7 @@
 ghost use mathlib.Core.Path.{_≡_};
 ghost use Prim.Native.Nat.{_*_, _^_, _<_, _≤_};
 ghost use Rattle.sheet.specs.Limits.{pointsMost, levelsMost};
+ghost use Rattle.sheet.specs.Sheet as S;
 ghost use Rattle.sheet.specs.Lines as L;
 use crate::Lines;
 use crate::MOST_DEPTH;
@@ -74,17 +75,19 @@ pub fn layer_lines(shape: Shape, layer: usize) -> Lines
 
 // How many points a layer has; none where there is no such layer.
 pub fn layer_size(shape: Shape, layer: usize) -> usize
-    ensures { λ r. ⌜ r ≡ L.sizing shape layer ⌝ }
+    ensures { λ r. ⌜ r ≡ S.sizeAt shape layer ⌝ }
 {
     let l = row_lines(shape, layer);
     l.sheets * l.lines * l.points
 }
 
-// No number of a layer's lines is larger than this, and no layer has more lines.
+// The first point of a layer's lines and the distances between them are no larger than this.
 const FAR: usize = (4 << MOST_LEVELS) * MOST_POINTS * MOST_POINTS;
 
+// No layer has more lines.
 const MOST_LINES: usize = MOST_DEPTH * MOST_POINTS;
 
+// Are there lines, is t at most the most of them, and is none of their numbers past `FAR`?
 fn is_near(l: Lines, t: usize) -> bool
     ensures { λ r. ⌜ r ≡ L.near l t ⌝ }
 {
@@ -107,8 +110,8 @@ fn is_near(l: Lines, t: usize) -> bool
     apart <= FAR
 }
 
-// Where line t of a layer starts; 0 where there is no such line near a sheet. Lines count on through the sheets; of a single sheet (until request
-// 10) none lies beyond the first.
+// Where line t of a layer starts; 0 where there are no lines, or t or a number of theirs is past any layer's. Lines count on through the sheets; of
+// a single sheet (until request 10) none lies beyond the first.
 pub fn line_start(l: Lines, t: usize) -> usize
     ensures { λ r. ⌜ r ≡ L.startIn l t ⌝ }
 {

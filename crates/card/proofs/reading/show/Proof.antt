@@ -2,8 +2,9 @@
 use mathlib.Core.Path.{ap, _∙_}
 use borrow.Author.Needs.{needs}
 use denote.Ref.{now}
+use Rattle.order.specs.CardOrder.{wholeOf}
 use Rattle.card.specs.declared.Reached.{Reached}
-use Rattle.card.specs.Reading.{told, wholeOf, readOpened, showing}
+use Rattle.card.specs.Reading.{told, readOpened, showing}
 use Rattle.header.specs.Opening.{Opening}
 use Rattle.header.proofs.Refusing.{refusing, header-right}
 use Rattle.card.proofs.ReadCall.{stops, opened-yes, header-here}

@@ -7,8 +7,9 @@ use borrow.Author.Needs.{needs}
 use borrow.Author.Tests.{not-true, not-false}
 use denote.Ref.{now}
 use lib.IntN.{ℤ}
+use Rattle.order.specs.CardOrder.{wholeOf}
 use Rattle.card.specs.declared.Reached.{Reached}
-use Rattle.card.specs.Reading.{told, goodLengths, wholeOf}
+use Rattle.card.specs.Reading.{told, goodLengths}
 use Rattle.card.proofs.ReadCall.{read-short, whole-read}
 use Rattle.card.proofs.reading.show_opened.Statement.{statement}
 use Rattle.card.proofs.reading.show_opened.Tie as tie

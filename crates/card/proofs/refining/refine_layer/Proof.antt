@@ -13,8 +13,9 @@ use Rattle.header.specs.declared.Plan.{Plan}
 use Rattle.header.specs.Header.{planesOf}
 use Rattle.header.specs.Plan.{loads}
 use Rattle.header.proofs.Rightness.{Right, right-yes, layers-few}
+use Rattle.order.specs.CardOrder.{wholeOf}
 use Rattle.card.specs.declared.Reached.{Reached}
-use Rattle.card.specs.Reading.{wholeOf, told}
+use Rattle.card.specs.Reading.{told}
 use Rattle.card.proofs.RefineCall.{refine-past, refine-none, next-named, added-refine}
 use Rattle.card.proofs.refining.refine_layer.Statement.{statement}
 use Rattle.card.proofs.refining.refine_layer.Tie as tie

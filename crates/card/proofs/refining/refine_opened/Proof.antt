@@ -7,8 +7,9 @@ use denote.Ref.{now}
 use lib.IntN.{ℤ}
 use Rattle.header.specs.Refusals.{detailsOf}
 use Rattle.header.proofs.Refusing.{refusing}
+use Rattle.order.specs.CardOrder.{wholeOf}
 use Rattle.card.specs.declared.Reached.{Reached}
-use Rattle.card.specs.Reading.{wholeOf, firstRefusal, told}
+use Rattle.card.specs.Reading.{firstRefusal, told}
 use Rattle.card.specs.Refining.{refineOpened}
 use Rattle.loading.proofs.Loads.{plan-within}
 use Rattle.card.proofs.ReadCall.{whole-here, checked-is, checked-yes, goes-on, stops}

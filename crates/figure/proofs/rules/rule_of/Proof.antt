@@ -3,7 +3,7 @@ use mathlib.Core.Path.{_≡_}
 use native.Mathlib.Omega.{arith}
 use borrow.Author.Needs.{needs}
 use borrow.Author.Tests.{eq-eqb, ne-eqb}
-use Rattle.sheet.specs.Lines.{sizing}
+use Rattle.sheet.specs.Sheet.{sizeAt}
 use Rattle.figure.specs.Figure.{ruleOf}
 use Rattle.figure.proofs.rules.rule_of.Statement.{statement}
 use Rattle.figure.proofs.rules.rule_of.Tie as tie
@@ -15,14 +15,14 @@ returns : tie.Need-returns
 unfolding ruleOf
 returns c =
     let s = c .before .before in
-    let none : sizing (s .args .header .shape) (s .args .layer) ≡ 0 = omega (arith, c .before .layer-size .ensures, c .if1 .taken) in
+    let none : sizeAt (s .args .header .shape) (s .args .layer) ≡ 0 = omega (arith, c .before .layer-size .ensures, c .if1 .taken) in
     rw (eq-eqb _ _ none)
 
 returns-2 : tie.Need-returns-2
 unfolding ruleOf
 returns-2 c =
     let s = c .before .before in
-    let some : sizing (s .args .header .shape) (s .args .layer) ≡ 0 → ⊥ = λ e. omega (arith, c .before .layer-size .ensures, c .if1 .left) in
+    let some : sizeAt (s .args .header .shape) (s .args .layer) ≡ 0 → ⊥ = λ e. omega (arith, c .before .layer-size .ensures, c .if1 .left) in
     rw (ne-eqb _ _ some)
 
 pub rule-of-spec : {M : Type 1} → statement M

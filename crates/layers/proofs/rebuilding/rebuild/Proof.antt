@@ -12,10 +12,9 @@ use borrow.Author.Tests.{not-true, not-false}
 use Rattle.sheet.specs.declared.Shape.{Shape}
 use Rattle.sheet.specs.declared.Curve.{Curve}
 use Rattle.sheet.specs.Limits.{stepMost}
-use Rattle.sheet.specs.Sheet.{accepted, points}
+use Rattle.sheet.specs.Sheet.{accepted, points, laid}
 use Rattle.layers.specs.Layering.{layering, rebuilt}
 use Rattle.layers.specs.Calls.{settled, full, rebuildable, rebuilding}
-use Rattle.sheet.specs.Lines.{laid}
 use Rattle.integers.proofs.Bools.{and-both, and-no-left, and-no-right}
 use Rattle.sheet.proofs.Accepting.{points-in}
 use Rattle.layers.proofs.Answers.{settled-yes, full-yes, full-no}

@@ -25,7 +25,7 @@ use Rattle.header.specs.Header.{placesMost}
 use Rattle.header.proofs.Total.{plane-room}
 use Rattle.loading.specs.Words.{Scattered}
 use Rattle.packing.specs.Planes.{allHeld}
-use Rattle.loading.specs.Loading.{bitAt, coefsPlus}
+use Rattle.loading.specs.InBytes.{bitAt, coefsPlus}
 use Rattle.packing.proofs.All.{all-at}
 use Rattle.loading.proofs.Weights.{weight-small}
 use Rattle.loading.proofs.Scatters.{scattered-none, scattered-ahead, scattered-line, scattered-all}

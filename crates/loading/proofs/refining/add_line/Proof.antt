@@ -16,7 +16,7 @@ use Rattle.integers.proofs.Machine.{bits, told, sfits-by}
 use Rattle.digits.proofs.Range.{Holds, holds-yes, range-23}
 use Rattle.sheet.specs.Lists.{at}
 use Rattle.header.specs.Header.{placesMost}
-use Rattle.loading.specs.Loading.{bitAt}
+use Rattle.loading.specs.InBytes.{bitAt}
 use Rattle.loading.specs.Words.{Scattered}
 use Rattle.loading.proofs.ZeroBits.{bit-most}
 use Rattle.loading.proofs.Weights.{digit-small}

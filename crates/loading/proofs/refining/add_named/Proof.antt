@@ -1,4 +1,4 @@
--- The plane stands where the header's order says; past the tests it is inside the bytes, and its digits are added to its layer's coefficients.
+-- The plane stands where card order says; past the tests it is inside the bytes, and its digits are added to its layer's coefficients.
 use mathlib.Core.Bool.{true}
 use mathlib.Core.List.{List}
 use mathlib.Core.Path.{_≡_, sym, ap, _∙_}
@@ -17,7 +17,7 @@ use Rattle.header.proofs.Cells.{size-there, cells-there}
 use Rattle.header.proofs.Rightness.{Right, right-yes, layers-few, few-planes}
 use Rattle.header.proofs.Total.{plane-room, plane-most}
 use Rattle.packing.specs.Planes.{allHeld}
-use Rattle.loading.specs.Loading.{bitAt, fine, coefsPlus}
+use Rattle.loading.specs.InBytes.{bitAt, fine, coefsPlus}
 use Rattle.loading.specs.Calls.{done}
 use Rattle.loading.proofs.Loads.{loadable-right, loadable-here, loadable-full, before-is, fine-is, add-cut, add-unheld, add-bad, add-fine}
 use Rattle.layers.proofs.Answers.{full-long}

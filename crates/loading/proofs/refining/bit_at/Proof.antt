@@ -1,7 +1,7 @@
 -- The value returned is the bit, by its definition.
 use mathlib.Core.Path.{refl}
 use borrow.Author.Needs.{needs}
-use Rattle.loading.specs.Loading.{bitAt}
+use Rattle.loading.specs.InBytes.{bitAt}
 use Rattle.loading.proofs.refining.bit_at.Statement.{statement}
 use Rattle.loading.proofs.refining.bit_at.Tie as tie
 

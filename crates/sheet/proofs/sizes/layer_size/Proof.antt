@@ -8,8 +8,8 @@ use borrow.Author.Needs.{needs}
 use Rattle.sheet.specs.declared.Shape.{Shape}
 use Rattle.sheet.specs.declared.Lines.{Lines}
 use Rattle.sheet.specs.Limits.{pointsMost, depthMost}
-use Rattle.sheet.specs.Sheet.{accepted, layers}
-use Rattle.sheet.specs.Lines.{sizing, rowLines}
+use Rattle.sheet.specs.Sheet.{accepted, layers, sizeAt}
+use Rattle.sheet.specs.Lines.{rowLines}
 use Rattle.integers.proofs.Bools.{by, and-left}
 use Rattle.sheet.proofs.Accepting.{accepted-yes}
 use Rattle.sheet.proofs.Places.{size-most}
@@ -20,11 +20,11 @@ use Rattle.sheet.proofs.sizes.layer_size.Tie as tie
 -- the lines and the points of all of them
 record Sizes (sh : Shape) (k : ℕ) (l : Lines) : Type 0 where
   few : l .sheets * l .lines ≤ depthMost * pointsMost
-  is : l .sheets * l .lines * l .points ≡ sizing sh k
-  most : sizing sh k ≤ pointsMost
+  is : l .sheets * l .lines * l .points ≡ sizeAt sh k
+  most : sizeAt sh k ≤ pointsMost
 
 lines-sizing : (sh : Shape) (k : ℕ) → Sizes sh k (rowLines sh k)
-unfolding rowLines sizing
+unfolding rowLines sizeAt
 lines-sizing sh k =
     by (accepted sh && ltb k (layers sh))
     (λ m.

@@ -9,12 +9,12 @@ use lib.ListN.{getD}
 use denote.Ref.{now}
 use Rattle.header.specs.Header.{cellBytes, cellPoints}
 use Rattle.packing.specs.Planes.{allBelow}
-use Rattle.loading.specs.Loading.{bitAt}
+use Rattle.loading.specs.InBytes.{bitAt}
 use Rattle.loading.proofs.ZeroBits.{points-bits}
 use Rattle.loading.proofs.SlotTests.{fine-spare, fine-top, fine-lower}
 use borrow.Author.Needs.{needs}
-use Rattle.loading.proofs.loading.is_fine.Statement.{statement}
-use Rattle.loading.proofs.loading.is_fine.Tie as tie
+use Rattle.loading.proofs.walking.is_fine.Statement.{statement}
+use Rattle.loading.proofs.walking.is_fine.Tie as tie
 
 spare-zero-requires : tie.Need-spare-zero-requires
 spare-zero-requires c κs = search needs

@@ -8,14 +8,14 @@ use denote.Ref.{now}
 use native.Mathlib.Numerals.{add-one}
 use lib.Dec.{eqb}
 use Rattle.header.specs.Header.{cellPoints}
-use Rattle.loading.specs.Loading.{bitAt}
+use Rattle.loading.specs.InBytes.{bitAt}
 use Rattle.loading.specs.Words.{asked, fineAt, added, wordsWith}
 use Rattle.loading.proofs.PlaneSums.{with-zeros}
 use Rattle.loading.proofs.HalfBytes.{half-small, with-added}
 use Rattle.loading.proofs.SlotTests.{fine-zeros, asked-yes, asked-less, asked-out, slot-none, slot-bad, slot-good}
 use borrow.Author.Needs.{needs}
-use Rattle.loading.proofs.loading.load_slot.Statement.{statement}
-use Rattle.loading.proofs.loading.load_slot.Tie as tie
+use Rattle.loading.proofs.walking.load_slot.Statement.{statement}
+use Rattle.loading.proofs.walking.load_slot.Tie as tie
 
 -- both answers, the other way round
 both : {A B : Type 0} {a a′ : A} {b b′ : B} → (a ≡ a′) × (b ≡ b′) → (a′ ≡ a) × (b′ ≡ b)

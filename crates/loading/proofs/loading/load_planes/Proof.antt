@@ -8,8 +8,8 @@ use Rattle.loading.specs.Calls.{done}
 use Rattle.loading.proofs.Loads.{load-bad, load-fine}
 use Rattle.layers.proofs.Answers.{full-long}
 use Rattle.loading.proofs.ReadWords.{read-right}
-use Rattle.loading.proofs.reading.load_planes.Statement.{statement}
-use Rattle.loading.proofs.reading.load_planes.Tie as tie
+use Rattle.loading.proofs.loading.load_planes.Statement.{statement}
+use Rattle.loading.proofs.loading.load_planes.Tie as tie
 
 abbrev S : tie.After-load-body → tie.Start
 S c = c .before .before .before .before

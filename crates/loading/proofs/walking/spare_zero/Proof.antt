@@ -6,8 +6,8 @@ use denote.Ref.{now}
 use Rattle.header.specs.Header.{cellBytes, cellPoints}
 use Rattle.loading.proofs.ZeroBits.{spare-whole, spare-inside, spare-set}
 use borrow.Author.Needs.{needs}
-use Rattle.loading.proofs.loading.spare_zero.Statement.{statement}
-use Rattle.loading.proofs.loading.spare_zero.Tie as tie
+use Rattle.loading.proofs.walking.spare_zero.Statement.{statement}
+use Rattle.loading.proofs.walking.spare_zero.Tie as tie
 
 mul-end : tie.Need-mul-end
 mul-end c = search needs

@@ -2,14 +2,14 @@
 use mathlib.Core.Path.{refl}
 use Prim.Native.Nat.{_-_, _≤_}
 use native.Mathlib.Omega.{arith}
-use Rattle.sheet.specs.Lines.{sizing}
+use Rattle.sheet.specs.Sheet.{sizeAt}
 use Rattle.sheet.specs.Limits.{layersMost}
 use Rattle.header.proofs.Fills.{Filled, filled-none, filled-more, filled-all}
-use Rattle.loading.proofs.loading.sizes_of.Statement.{statement}
-use Rattle.loading.proofs.loading.sizes_of.Tie as tie
+use Rattle.loading.proofs.walking.sizes_of.Statement.{statement}
+use Rattle.loading.proofs.walking.sizes_of.Tie as tie
 
 abbrev Inv-loop : tie.InvT-loop
-Inv-loop shape sizes₀ k₀ sizes k = (k ≤ layersMost) × Filled (sizing shape) layersMost k sizes
+Inv-loop shape sizes₀ k₀ sizes k = (k ≤ layersMost) × Filled (sizeAt shape) layersMost k sizes
 
 abbrev μ-loop : tie.MeasureT-loop
 μ-loop shape sizes₀ k₀ sizes k = layersMost - k

@@ -11,8 +11,7 @@ use lib.ListN.{length, getD}
 use denote.Ref.{now}
 use Rattle.sheet.specs.declared.Shape.{Shape}
 use Rattle.sheet.specs.Limits.{layersMost}
-use Rattle.sheet.specs.Lines.{sizing}
-use Rattle.sheet.specs.Sheet.{layers, layerSize}
+use Rattle.sheet.specs.Sheet.{sizeAt, layers, layerSize}
 use Rattle.sheet.proofs.Accepting.{count-is}
 use Rattle.sheet.proofs.Lists.{getD-tabulate}
 use Rattle.header.specs.declared.Header.{Header}
@@ -22,15 +21,15 @@ use Rattle.order.specs.CardOrder.{cellsBefore}
 use Rattle.header.proofs.Total.{plane-room, plane-most}
 use Rattle.header.proofs.Cells.{size-there, cells-there}
 use Rattle.header.proofs.Rightness.{Right, right-yes, layers-few, few-planes}
-use Rattle.loading.specs.Loading.{badSlot}
+use Rattle.loading.specs.InBytes.{badSlot}
 use Rattle.packing.specs.Words.{wordsMost, blockStart}
 use Rattle.loading.specs.Words.{asked, slotWords, slotNo, Partly, FineBefore}
 use Rattle.packing.proofs.Blocks.{block-none, block-next, block-room}
 use Rattle.loading.proofs.SlotOrder.{cells-next, cells-few}
 use Rattle.loading.proofs.SlotTests.{fine-same, words-same, slot-length}
 use Rattle.loading.proofs.WordSums.{fine-slot, partly-small, partly-next}
-use Rattle.loading.proofs.loading.load_place.Statement.{statement}
-use Rattle.loading.proofs.loading.load_place.Tie as tie
+use Rattle.loading.proofs.walking.load_place.Statement.{statement}
+use Rattle.loading.proofs.walking.load_place.Tie as tie
 
 abbrev Inv-loop : tie.InvT-loop
 Inv-loop bytes at p table before words₀ header plan sizes spans layers cells₀ start₀ k₀ words cells start k =
@@ -83,7 +82,7 @@ module _ (i : tie.In-loop Inv-loop μ-loop) where
   a-layer = omega (arith, below, layers-few (right s))
 
   size-is : getD (s .args .t5) k 0 ≡ layerSize (sh s) k
-  size-is = ap (λ ns. getD ns k 0) (s .pre .1 .0 .0) ∙ getD-tabulate layersMost (sizing (sh s)) k 0 a-layer ∙ size-there (sh s) (right s .shape) k below
+  size-is = ap (λ ns. getD ns k 0) (s .pre .1 .0 .0) ∙ getD-tabulate layersMost (sizeAt (sh s)) k 0 a-layer ∙ size-there (sh s) (right s .shape) k below
 
   span-is : getD (s .args .t6) k 0 ≡ planeCells (sh s) k
   span-is = ap (λ ns. getD ns k 0) (s .pre .1 .0 .1) ∙ getD-tabulate layersMost (cellsAt (sh s)) k 0 a-layer ∙ cells-there (sh s) (right s .shape) k below

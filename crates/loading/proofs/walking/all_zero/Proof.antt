@@ -8,8 +8,8 @@ use lib.Dec.{eqb}
 use lib.ListN.{getD}
 use denote.Ref.{now}
 use Rattle.packing.proofs.All.{all-by, all-no}
-use Rattle.loading.proofs.loading.all_zero.Statement.{statement}
-use Rattle.loading.proofs.loading.all_zero.Tie as tie
+use Rattle.loading.proofs.walking.all_zero.Statement.{statement}
+use Rattle.loading.proofs.walking.all_zero.Tie as tie
 
 abbrev Inv-loop : tie.InvT-loop
 Inv-loop bytes from to b₀ b = (from ≤ b) × ((i : ℕ) → from ≤ i → i < b → getD bytes i 0 ≡ 0)

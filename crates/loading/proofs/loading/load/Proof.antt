@@ -17,8 +17,8 @@ use Rattle.order.specs.CardOrder.{wholePlan}
 use Rattle.header.proofs.Over.{over-le}
 use Rattle.loading.specs.Calls.{no, loadable}
 use Rattle.loading.proofs.Loads.{loadable-right, loadable-here, loadable-full, whole-is, all-there, not-loadable, plan-over, plan-good}
-use Rattle.loading.proofs.reading.load.Statement.{statement}
-use Rattle.loading.proofs.reading.load.Tie as tie
+use Rattle.loading.proofs.loading.load.Statement.{statement}
+use Rattle.loading.proofs.loading.load.Tie as tie
 
 abbrev S : tie.Else1 → tie.Start
 S c = c .before .before .before .before

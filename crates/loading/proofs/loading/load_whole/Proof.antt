@@ -15,12 +15,12 @@ use Rattle.header.specs.Plan.{loads}
 use Rattle.header.specs.Refusals.{detailsOf}
 use Rattle.order.specs.CardOrder.{wholePlan}
 use Rattle.header.proofs.Refusing.{refusing}
-use Rattle.loading.specs.Loading.{firstBad}
+use Rattle.loading.specs.InBytes.{firstBad}
 use Rattle.loading.specs.Words.{AllThere}
 use Rattle.loading.specs.Calls.{Loading, told, loadable, loadingWhole, allWhole}
 use Rattle.loading.proofs.Loads.{loadable-right, loadable-here, loadable-full, whole-is, all-there, not-loadable, plan-good, whole-good, plan-whole, plan-none}
-use Rattle.loading.proofs.reading.load_whole.Statement.{statement}
-use Rattle.loading.proofs.reading.load_whole.Tie as tie
+use Rattle.loading.proofs.loading.load_whole.Statement.{statement}
+use Rattle.loading.proofs.loading.load_whole.Tie as tie
 
 abbrev S : tie.Else1 → tie.Start
 S c = c .before .before .before .before

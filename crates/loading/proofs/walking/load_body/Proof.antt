@@ -14,14 +14,14 @@ use Rattle.header.specs.Plan.{loads}
 use Rattle.order.specs.CardOrder.{cellsBefore}
 use Rattle.order.proofs.CardOrder.{first-place, next-place}
 use Rattle.header.proofs.Rightness.{Right, right-yes, few-planes}
-use Rattle.loading.specs.Loading.{badSlot}
+use Rattle.loading.specs.InBytes.{badSlot}
 use Rattle.loading.specs.declared.Placed.{Placed}
 use Rattle.loading.specs.declared.Placed.the-variants as Placed
 use Rattle.loading.specs.Words.{halves, halved, slotNo, Partly, FineBefore, PlaceRead}
 use Rattle.loading.proofs.HalfBytes.{halves-down}
 use Rattle.loading.proofs.WordSums.{bad-is, none-is, partly-none, partly-all}
-use Rattle.loading.proofs.loading.load_body.Statement.{statement}
-use Rattle.loading.proofs.loading.load_body.Tie as tie
+use Rattle.loading.proofs.walking.load_body.Statement.{statement}
+use Rattle.loading.proofs.walking.load_body.Tie as tie
 
 abbrev Inv-loop : tie.InvT-loop
 Inv-loop bytes at header plan words₀ sizes spans table₀ cells₀ t₀ words table cells t =

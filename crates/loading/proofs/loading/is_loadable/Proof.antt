@@ -12,8 +12,8 @@ use Rattle.sheet.proofs.Accepting.{points-in}
 use Rattle.header.specs.Opening as O
 use Rattle.header.proofs.Rightness.{right-yes}
 use Rattle.loading.proofs.Loads.{loadable-wrong, loadable-short, loadable-by}
-use Rattle.loading.proofs.reading.is_loadable.Statement.{statement}
-use Rattle.loading.proofs.reading.is_loadable.Tie as tie
+use Rattle.loading.proofs.loading.is_loadable.Statement.{statement}
+use Rattle.loading.proofs.loading.is_loadable.Tie as tie
 
 is-right-requires : tie.Need-is-right-requires
 is-right-requires c κs = search needs

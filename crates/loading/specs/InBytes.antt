@@ -9,10 +9,11 @@ use Rattle.digits.specs.Digits.{value, weight, firstFrom}
 use Rattle.sheet.specs.declared.Shape.{Shape}
 use Rattle.sheet.specs.Lists.{at, tabulate, total}
 use Rattle.sheet.specs.Sheet.{points, layers, layerSize, inLayer, placeIn}
+use Rattle.layers.specs.Layering.{ownLayer}
 use Rattle.header.specs.declared.Header.{Header}
 use Rattle.header.specs.Header.{placesMost, cellBytes, cellPoints, planesOf, planeCells}
 use Rattle.order.specs.CardOrder.{cellsBefore}
-use Rattle.packing.specs.Planes.{allBelow, ownLayer}
+use Rattle.packing.specs.Planes.{allBelow}
 
 -- bit i of the bytes from `from` on
 unfoldable pub bitAt : List ℕ → ℕ → ℕ → ℕ
