@@ -23,7 +23,7 @@ use Rattle.header.specs.declared.Header.{Header}
 use Rattle.header.specs.Header.{placesMost, cellPoints, planesOf, planeCells, cellsOf}
 use Rattle.header.proofs.Rightness.{Right, counts-few, counts-past}
 use Rattle.packing.specs.Planes.{planeBit, allBelow, enough, planesFor, countsFor, headerFor}
-use Rattle.loading.specs.InBytes.{bitOf, clean, hasOne, fine, coefsRead}
+use Rattle.loading.specs.InBytes.{clean, hasOne, fineBits, bitOf, fine, coefsRead}
 use Rattle.packing.proofs.All.{all-by, all-at}
 use Rattle.packing.proofs.Cards.{counts-at}
 use Rattle.packing.proofs.HeldLayers.{enough-yes, enough-by}
@@ -43,17 +43,17 @@ module _ {h : Header} (r : Right h) {long : ℕ} {bs : List ℕ} (t : Taken h lo
 
     -- "spare bits are 0"
     spare-bit : (i : ℕ) → i < cellPoints * planeCells (h .shape) k → layerSize (h .shape) k ≤ i → bit i ≡ 0
-    unfolding fine clean
+    unfolding fine fineBits clean
     spare-bit i hi past =
         let clear : ltb i (layerSize (h .shape) k) || eqb (bit i) 0 ≡ true =
-        all-at (λ i. ltb i (layerSize (h .shape) k) || eqb (bit i) 0) (cellPoints * planeCells (h .shape) k) (and-left (clean h long bs k p) _ (t .fine k p hk hp (omega arith))) i hi in
+        all-at (λ i. ltb i (layerSize (h .shape) k) || eqb (bit i) 0) (cellPoints * planeCells (h .shape) k) (and-left (clean bit (layerSize (h .shape) k) (planeCells (h .shape) k)) _ (t .fine k p hk hp (omega arith))) i hi in
         eqb-true _ _ (rw (le-ltb i (layerSize (h .shape) k) past) at clear)
 
     -- the top plane has a 1
     top-one : suc p ≡ planesOf h k → allBelow (λ i. eqb (bit i) 0) (layerSize (h .shape) k) ≡ false
-    unfolding fine hasOne
+    unfolding fine fineBits hasOne
     top-one e =
-        let top = and-right (clean h long bs k p) (not (eqb (suc p) (planesOf h k)) || hasOne h long bs k p) (t .fine k p hk hp (omega arith)) in
+        let top = and-right (clean bit (layerSize (h .shape) k) (planeCells (h .shape) k)) (not (eqb (suc p) (planesOf h k)) || hasOne bit (layerSize (h .shape) k)) (t .fine k p hk hp (omega arith)) in
         not-true _ (rw (eq-eqb (suc p) (planesOf h k) e) at top)
 
   -- ---- a layer's count

@@ -20,7 +20,7 @@ use Rattle.header.specs.Header.{cellPoints, planesOf, planeCells}
 use Rattle.header.specs.Plan.{loads}
 use Rattle.header.proofs.Rightness.{layers-few}
 use Rattle.packing.specs.Planes.{planeBit, allBelow, headerFor}
-use Rattle.loading.specs.InBytes.{bitOf, clean, hasOne, fine}
+use Rattle.loading.specs.InBytes.{clean, hasOne, fineBits, bitOf, fine}
 use Rattle.packing.proofs.All.{all-by, all-at}
 use Rattle.packing.proofs.Cards.{counts-at}
 use Rattle.guarantee.proofs.Carried.{Carries, carried-digit}
@@ -34,13 +34,13 @@ module _ {sh : Shape} {e : ℕ} {qs : List ℤ} (c : Fits sh e qs) (curve : Curv
   h = headerFor sh curve e qs
 
   module _ (k p : ℕ) (hk : k < layers sh) (named : p < planesOf h k) (asked : planesOf h k ≤ p + loads plan k) where
-    spare : clean h long bs k p ≡ true
+    spare : clean (bitOf h long bs k p) (layerSize sh k) (planeCells sh k) ≡ true
     unfolding clean planeBit
     spare =
         all-by _ (cellPoints * planeCells sh k) (λ i l.
         by (ltb i (layerSize sh k)) (λ y. rw y) (λ y. rw (carries .bit k p hk named asked i l, y)))
 
-    top : suc p ≡ planesOf h k → hasOne h long bs k p ≡ true
+    top : suc p ≡ planesOf h k → hasOne (bitOf h long bs k p) (layerSize sh k) ≡ true
     unfolding hasOne
     top last =
         by (allBelow (λ i. eqb (bitOf h long bs k p i) 0) (layerSize sh k))
@@ -54,7 +54,7 @@ module _ {sh : Shape} {e : ℕ} {qs : List ℤ} (c : Fits sh e qs) (curve : Curv
         (λ some. rw some)
 
   pub carried-fine : AllFine h long bs plan
-  unfolding fine
+  unfolding fine fineBits
   carried-fine k p hk named asked =
-      and-both (clean h long bs k p) _ (spare k p hk named asked)
+      and-both (clean (bitOf h long bs k p) (layerSize sh k) (planeCells sh k)) _ (spare k p hk named asked)
       (by (eqb (suc p) (planesOf h k)) (λ y. rw (y, top k p hk named asked (eqb-true (suc p) (planesOf h k) y))) (λ y. rw y))

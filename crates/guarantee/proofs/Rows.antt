@@ -15,7 +15,7 @@ use Rattle.header.specs.Plan.{firstOver}
 use Rattle.order.specs.CardOrder.{cellsBefore, isWhole, whole}
 use Rattle.figure.specs.Figure.{figureOf}
 use Rattle.packing.specs.Planes.{allBelow}
-use Rattle.loading.specs.InBytes.{bitAt, clean, hasOne, fine, badSlot, firstBad, coefRead, coefsRead}
+use Rattle.loading.specs.InBytes.{bitAt, clean, hasOne, fineBits, fine, badSlot, firstBad, coefRead, coefsRead}
 use Rattle.planner.specs.Planning.{withUpTo, eachUpTo, listsUpTo, plansOf, before, better, bestOf, bestByLimit, bestByCells}
 use Rattle.guarantee.specs.Bench.{card, Bench}
 use Rattle.guarantee.proofs.RowsOpened.{openings}
@@ -24,7 +24,7 @@ use Rattle.guarantee.proofs.RowsCalls as C
 pub bench : Bench
 unfolding
     coefs written alongside rebuilt valuesBy layerBy tabulate pointBy predictedAt line linear coefficientOf rebuiltFrom floorDiv width
-    firstOver firstFrom whole isWhole cellsBefore firstBad badSlot fine clean hasOne bitAt allBelow coefsRead coefRead value lastIn placeIn
+    firstOver firstFrom whole isWhole cellsBefore firstBad badSlot fine fineBits clean hasOne bitAt allBelow coefsRead coefRead value lastIn placeIn
     bestByLimit bestByCells bestOf better before plansOf listsUpTo eachUpTo withUpTo
     figureOf standing carried loss cellsOf total planeCells ceilDiv layerSize count inLayer directions spacing asciiFrom
 bench =

@@ -20,7 +20,7 @@ use Rattle.integers.proofs.Bools.{and-left, and-right, and-both, by, choice}
 use Rattle.header.specs.declared.Header.{Header}
 use Rattle.header.specs.Header.{placesMost, planesOf, planeCells, cellsAt, spansOf, cellsOf}
 use Rattle.header.specs.Plan.{firstOver}
-use Rattle.header.specs.Opening.{right, planesMost, mostBy, limitsBy}
+use Rattle.header.specs.Opening.{rightCounts, right, planesMost, mostBy, limitsBy}
 use Rattle.header.proofs.Cells.{cells-there, cells-past, span-listed}
 use Rattle.header.proofs.Over.{none-over, over-none}
 
@@ -58,6 +58,32 @@ pub limits-by : (sh : Shape) → accepted sh ≡ true → limitsBy (spansOf sh) 
 unfolding limitsBy
 limits-by sh ok = tabulate-same layersMost _ _ (λ k l. rw (span-listed sh k l, most-by sh k ok))
 
+-- ---- right counts
+pub record RightCounts (sh : Shape) (planes : List ℕ) : Type 0 where
+  pub shape : accepted sh ≡ true
+  pub counts : (k : ℕ) → k < layersMost → getD planes k 0 ≤ planesMost sh k
+
+module _ (sh : Shape) (planes : List ℕ) where
+  abbrev none : Bool
+  none = eqb (firstOver (planesMost sh) (λ k. getD planes k 0)) layersMost
+
+  pub counts-yes : rightCounts sh planes ≡ true → RightCounts sh planes
+  unfolding rightCounts
+  counts-yes e =
+      record { shape = and-left (accepted sh) none e; counts = over-none (planesMost sh) (λ k. getD planes k 0) (eqb-true _ _ (and-right (accepted sh) none e)) }
+
+  pub counts-by : RightCounts sh planes → rightCounts sh planes ≡ true
+  unfolding rightCounts
+  counts-by r = and-both (accepted sh) none (r .shape) (eq-eqb _ _ (none-over (planesMost sh) (λ k. getD planes k 0) (r .counts)))
+
+  -- where there is a count for each layer there may be and no more, so at every place
+  pub all-few : length planes ≡ layersMost → ((k : ℕ) → k < layersMost → getD planes k 0 ≤ planesMost sh k) → (k : ℕ) → getD planes k 0 ≤ placesMost
+  all-few long few k =
+      elim (decLt k layersMost) [
+        | yes l ↦ omega (arith, few k l, most-le sh k)
+        | no l ↦ omega (arith, List·getD-eq-default planes 0 {n = k} (omega arith))
+      ]
+
 -- ---- a right header
 pub record Right (h : Header) : Type 0 where
   pub shape : accepted (h .shape) ≡ true
@@ -66,32 +92,32 @@ pub record Right (h : Header) : Type 0 where
   pub cells : h .cells ≡ cellsOf (h .shape) (h .planes)
 
 module _ (h : Header) where
-  abbrev settings : Bool
-  settings = accepted (h .shape) && leb (h .step) stepMost
+  abbrev small : Bool
+  small = leb (h .step) stepMost
 
-  abbrev fewest : Bool
-  fewest = eqb (firstOver (planesMost (h .shape)) (planesOf h)) layersMost
+  abbrev counted : Bool
+  counted = rightCounts (h .shape) (h .planes)
+
+  abbrev total : Bool
+  total = eqb (h .cells) (cellsOf (h .shape) (h .planes))
 
   pub right-yes : right h ≡ true → Right h
   unfolding right
   right-yes e =
-      let total = eqb (h .cells) (cellsOf (h .shape) (h .planes)) in
-      let s = and-left settings (fewest && total) e in
-      let r = and-right settings (fewest && total) e in
+      let rest = and-right small (counted && total) e in
+      let c = counts-yes (h .shape) (h .planes) (and-left counted total rest) in
       record {
-        shape = and-left (accepted (h .shape)) (leb (h .step) stepMost) s;
-        step = leb-true (h .step) stepMost (and-right (accepted (h .shape)) (leb (h .step) stepMost) s);
-        counts = over-none (planesMost (h .shape)) (planesOf h) (eqb-true _ _ (and-left fewest total r));
-        cells = eqb-true _ _ (and-right fewest total r);
+        shape = c .shape;
+        step = leb-true (h .step) stepMost (and-left small (counted && total) e);
+        counts = c .counts;
+        cells = eqb-true _ _ (and-right counted total rest);
       }
 
   pub right-by : Right h → right h ≡ true
   unfolding right
   right-by r =
-      let total = eqb (h .cells) (cellsOf (h .shape) (h .planes)) in
-      and-both settings (fewest && total)
-      (and-both (accepted (h .shape)) (leb (h .step) stepMost) (r .shape) (le-leb (h .step) stepMost (r .step)))
-      (and-both fewest total (eq-eqb _ _ (none-over (planesMost (h .shape)) (planesOf h) (r .counts))) (eq-eqb _ _ (r .cells)))
+      and-both small (counted && total) (le-leb (h .step) stepMost (r .step))
+      (and-both counted total (counts-by (h .shape) (h .planes) (record { shape = r .shape; counts = r .counts })) (eq-eqb _ _ (r .cells)))
 
 -- ---- what follows
 module _ {h : Header} (r : Right h) where
@@ -115,12 +141,3 @@ module _ {h : Header} (r : Right h) where
   -- an empty layer has no planes
   pub counts-empty : (k : ℕ) → k < layersMost → layerSize (h .shape) k ≡ 0 → planesOf h k ≡ 0
   counts-empty k l e = omega (arith, r .counts k l, most-empty (h .shape) k e)
-
--- where the list has a count for each layer there may be and no more, so at every place
-pub all-few : (sh : Shape) (planes : List ℕ) → length planes ≡ layersMost → ((k : ℕ) → k < layersMost → getD planes k 0 ≤ planesMost sh k)
-    → (k : ℕ) → getD planes k 0 ≤ placesMost
-all-few sh planes long counts k =
-    elim (decLt k layersMost) [
-      | yes l ↦ omega (arith, counts k l, most-le sh k)
-      | no l ↦ omega (arith, List·getD-eq-default planes 0 {n = k} (omega arith))
-    ]

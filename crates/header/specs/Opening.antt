@@ -20,7 +20,7 @@ use Rattle.header.specs.declared.Header.{Header}
 use Rattle.header.specs.declared.Details.{Details}
 use Rattle.header.specs.declared.Opened.{Opened}
 use Rattle.header.specs.Refusals.{refusal, detailsOf}
-use Rattle.header.specs.Header.{placesMost, cellBytes, ascii, curveText, planesOf, cellsOf}
+use Rattle.header.specs.Header.{placesMost, cellBytes, ascii, curveText, cellsOf}
 use Rattle.header.specs.Plan.{firstOver}
 
 -- what opening answers: a refusal, or the header and how many bytes it has. Beside a refusal the header is blank and the length 0
@@ -130,12 +130,13 @@ unfoldable pub opening : List ℕ → Opening
 opening bs = taking 1 (lineAt (ascii "rows=") 1 pointsMost bs) (openingCols bs)
 
 -- ---- a header that opening can give
-unfoldable pub right : Header → Bool
-right h =
-    (accepted (h .shape) && leb (h .step) stepMost)
-    && (eqb (firstOver (planesMost (h .shape)) (planesOf h)) layersMost && eqb (h .cells) (cellsOf (h .shape) (h .planes)))
+-- are these a shape that is accepted and counts that a header of it may have?
+unfoldable pub rightCounts : Shape → List ℕ → Bool
+rightCounts sh planes = accepted sh && eqb (firstOver (planesMost sh) (λ k. getD planes k 0)) layersMost
 
--- the cells that counts name; 0 where no header has such a shape or such counts
+unfoldable pub right : Header → Bool
+right h = leb (h .step) stepMost && (rightCounts (h .shape) (h .planes) && eqb (h .cells) (cellsOf (h .shape) (h .planes)))
+
+-- the cells that counts name; 0 where they are not right
 unfoldable pub cellsNamed : Shape → List ℕ → ℕ
-cellsNamed sh planes =
-    cond (accepted sh && eqb (firstOver (planesMost sh) (λ k. getD planes k 0)) layersMost) (cellsOf sh planes) 0
+cellsNamed sh planes = cond (rightCounts sh planes) (cellsOf sh planes) 0

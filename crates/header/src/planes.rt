@@ -75,34 +75,39 @@ pub fn first_over(limit: [u64; MOST_LAYERS], plan: [u64; MOST_LAYERS]) -> usize
     MOST_LAYERS
 }
 
+// Are these a shape that is accepted and counts that a header of it may have? `spans` are the cells of one plane of each layer.
+fn right_counts(shape: Shape, spans: [u64; MOST_LAYERS], planes: [u64; MOST_LAYERS]) -> bool
+    requires { ⌜ spans ≡ Hd.spansOf shape ⌝ }
+    ensures { λ r. ⌜ r ≡ O.rightCounts shape planes ⌝ }
+{
+    if !sheet::accepted(shape) {
+        return false;
+    }
+    first_over(limits(spans), planes) == MOST_LAYERS
+}
+
 // The cells of all the planes that the counts name; 0 where no header has such a shape or such counts.
 pub fn total_cells(shape: Shape, planes: [u64; MOST_LAYERS]) -> u64
     ensures { λ r. ⌜ r ≡ O.cellsNamed shape planes ⌝ }
 {
-    if !sheet::accepted(shape) {
-        return 0;
-    }
     let spans = spans_of(shape);
-    if first_over(limits(spans), planes) < MOST_LAYERS {
-        return 0;
+    if right_counts(shape, spans, planes) {
+        return cells_of(spans, planes);
     }
-    cells_of(spans, planes)
+    0
 }
 
 // Is this a header that opening can give?
 pub fn is_right(header: Header) -> bool
     ensures { λ r. ⌜ r ≡ O.right header ⌝ }
 {
-    let shape = header.shape;
-    let planes = header.planes;
-    if !sheet::accepted(shape) {
-        return false;
-    }
     if MOST_STEP < header.step {
         return false;
     }
+    let shape = header.shape;
+    let planes = header.planes;
     let spans = spans_of(shape);
-    if first_over(limits(spans), planes) < MOST_LAYERS {
+    if !right_counts(shape, spans, planes) {
         return false;
     }
     header.cells == cells_of(spans, planes)

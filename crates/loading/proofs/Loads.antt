@@ -28,8 +28,8 @@ use Rattle.header.proofs.Over.{over-none, none-over}
 use Rattle.header.proofs.Rightness.{right-yes, layers-few}
 use Rattle.order.proofs.Whole.{whole-fits, fits-whole, whole-most, counted-whole}
 use Rattle.packing.specs.Planes.{allHeld}
-use Rattle.loading.specs.InBytes.{fine, slots, firstBad, coefsRead, coefsPlus, coefsWith}
-use Rattle.loading.specs.Words.{AllThere, loadedAs, fineAt}
+use Rattle.loading.specs.InBytes.{bitAt, fineBits, fine, slots, firstBad, coefsRead, coefsPlus, coefsWith}
+use Rattle.loading.specs.Words.{AllThere, loadedAs}
 use Rattle.loading.specs.Calls.{Loading, told, no, done, loadable, loadingWhole, loading, allWhole, wholeLoaded, there, adding}
 use Rattle.loading.specs.declared.Loaded.the-variants.{Fine, Bad}
 use Rattle.loading.proofs.LayerPlanes.{whole-at, loaded-yes}
@@ -134,11 +134,11 @@ module _ (h : Header) (k p : ℕ) where
 
   pub fine-is : (long : ℕ) (bs : List ℕ) (b : Bool) (from n c : ℕ)
       → from ≡ long + cellBytes * cellsBefore h k p → n ≡ layerSize (h .shape) k → c ≡ planeCells (h .shape) k
-      → b ≡ fineAt bs from n c (eqb (p + 1) (planesOf h k)) → fine h long bs k p ≡ b
+      → b ≡ fineBits (bitAt bs from) n c (eqb (p + 1) (planesOf h k)) → fine h long bs k p ≡ b
   fine-is long bs b from n c ef en ec eb =
       let s : suc p ≡ p + 1 = sym (add-one p) in
       fine-at h long bs (λ _. 0) k p
-      ∙ (λ t. fineAt bs (sym ef t) (sym en t) (sym ec t) (eqb (s t) (planesOf h k)))
+      ∙ (λ t. fineBits (bitAt bs (sym ef t)) (sym en t) (sym ec t) (eqb (s t) (planesOf h k)))
       ∙ sym eb
 
 -- ---- what the calls answer

@@ -1,6 +1,6 @@
 -- A plane that is fine or not, a slot that is asked for or not, and what is left of the words: each law by its tests' outcomes.
 use mathlib.Core.Path.{_≡_}
-use mathlib.Core.Bool.{Bool, true, false, not, _&&_, _||_}
+use mathlib.Core.Bool.{Bool, true, false, _&&_, _||_}
 use mathlib.Core.List.{List}
 use Prim.Native.Nat.{ℕ, suc, _+_, _*_, _-_, _<_, _≤_}
 use native.Mathlib.Omega.{arith}
@@ -9,52 +9,48 @@ use lib.Dec.{ltb, eqb}
 use lib.ListN.{length}
 use Rattle.integers.proofs.Bools.{by, and-left, or-cases}
 use Rattle.header.specs.Header.{cellPoints}
-use Rattle.packing.specs.Planes.{allBelow}
-use Rattle.loading.specs.InBytes.{bitAt}
-use Rattle.loading.specs.Words.{fineAt, asked, slotFine, slotWords, wordsWith}
+use Rattle.loading.specs.InBytes.{bitAt, clean, hasOne, fineBits, asked}
+use Rattle.loading.specs.Words.{slotFine, slotWords, wordsWith}
 use Rattle.packing.proofs.All.{all-at}
 use Rattle.loading.proofs.PlaneSums.{with-length}
 
 -- ---- one plane
 module _ (bs : List ℕ) (from n c : ℕ) where
-  abbrev Clean : Bool
-  Clean = allBelow (λ i. ltb i n || eqb (bitAt bs from i) 0) (cellPoints * c)
+  abbrev bit : ℕ → ℕ
+  bit = bitAt bs from
 
   -- a spare bit set
-  pub fine-spare : (top : Bool) → Clean ≡ false → fineAt bs from n c top ≡ false
-  unfolding fineAt
+  pub fine-spare : (top : Bool) → clean bit n c ≡ false → fineBits bit n c top ≡ false
+  unfolding fineBits
   fine-spare top e = rw e
 
   -- none, in a plane below the top one
-  pub fine-lower : (top : Bool) → Clean ≡ true → top ≡ false → fineAt bs from n c top ≡ true
-  unfolding fineAt
+  pub fine-lower : (top : Bool) → clean bit n c ≡ true → top ≡ false → fineBits bit n c top ≡ true
+  unfolding fineBits
   fine-lower top e q = rw (e, q)
 
   -- and in the top one
-  pub fine-top : (top : Bool) → Clean ≡ true → top ≡ true → fineAt bs from n c top ≡ not (allBelow (λ i. eqb (bitAt bs from i) 0) n)
-  unfolding fineAt
+  pub fine-top : (top : Bool) → clean bit n c ≡ true → top ≡ true → fineBits bit n c top ≡ hasOne bit n
+  unfolding fineBits
   fine-top top e q = rw (e, q)
 
   -- the spare bits of a fine plane are 0
-  pub fine-zeros : (top : Bool) → fineAt bs from n c top ≡ true → (i : ℕ) → n ≤ i → i < cellPoints * c → bitAt bs from i ≡ 0
-  unfolding fineAt
+  pub fine-zeros : (top : Bool) → fineBits bit n c top ≡ true → (i : ℕ) → n ≤ i → i < cellPoints * c → bit i ≡ 0
+  unfolding fineBits clean
   fine-zeros top e i l h =
-      or-cases (ltb i n) (eqb (bitAt bs from i) 0) (all-at (λ i. ltb i n || eqb (bitAt bs from i) 0) (cellPoints * c) (and-left Clean _ e) i h)
+      or-cases (ltb i n) (eqb (bit i) 0) (all-at (λ i. ltb i n || eqb (bit i) 0) (cellPoints * c) (and-left (clean bit n c) _ e) i h)
       (λ a. absurd (let z : ⊥ = omega (arith, ltb-true i n a) in z))
       (λ a. eqb-true _ _ a)
 
 -- ---- is it asked for?
 module _ (count want p : ℕ) where
   pub asked-yes : p < count → count - p ≤ want → asked count want p ≡ true
-  unfolding asked
   asked-yes a b = let l : count ≤ p + want = omega arith in rw (lt-ltb p count a, le-leb count (p + want) l)
 
   pub asked-less : want < count - p → asked count want p ≡ false
-  unfolding asked
   asked-less b = let a : p < count = omega arith in let l : p + want < count = omega arith in rw (lt-ltb p count a, lt-leb count (p + want) l)
 
   pub asked-out : count ≤ p → asked count want p ≡ false
-  unfolding asked
   asked-out a = rw (le-ltb p count a)
 
 -- ---- one slot
@@ -66,11 +62,11 @@ module _ (bs : List ℕ) (from n c count want p : ℕ) (ws : List ℕ) (start : 
   unfolding slotWords slotFine
   slot-none a = (rw a, rw a)
 
-  pub slot-bad : asked count want p ≡ true → fineAt bs from n c (eqb (suc p) count) ≡ false → Both false ws
+  pub slot-bad : asked count want p ≡ true → fineBits (bitAt bs from) n c (eqb (suc p) count) ≡ false → Both false ws
   unfolding slotWords slotFine
   slot-bad a f = (rw (a, f), rw (a, f))
 
-  pub slot-good : asked count want p ≡ true → fineAt bs from n c (eqb (suc p) count) ≡ true → Both true (wordsWith ws start (cellPoints * c) p (bitAt bs from))
+  pub slot-good : asked count want p ≡ true → fineBits (bitAt bs from) n c (eqb (suc p) count) ≡ true → Both true (wordsWith ws start (cellPoints * c) p (bitAt bs from))
   unfolding slotWords slotFine
   slot-good a f = (rw (a, f), rw (a, f))
 

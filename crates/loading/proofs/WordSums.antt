@@ -18,9 +18,9 @@ use Rattle.header.specs.Header.{placesMost, cellBytes, cellPoints, planesOf, pl
 use Rattle.order.specs.CardOrder.{cellsBefore}
 use Rattle.header.proofs.Totals.{total-same, total-none, total-bump}
 use Rattle.header.proofs.Total.{plane-room}
-use Rattle.loading.specs.InBytes.{bitAt, bitOf, clean, hasOne, fine, loaded, badSlot, firstBad, wordRead}
+use Rattle.loading.specs.InBytes.{bitAt, fineBits, asked, bitOf, fine, loaded, badSlot, firstBad, wordRead}
 use Rattle.packing.specs.Words.{blockStart, wordsMost}
-use Rattle.loading.specs.Words.{asked, fineAt, slotFine, slotWords, wordsWith, Read, loadedAs, slotNo, share, Partly}
+use Rattle.loading.specs.Words.{slotFine, slotWords, wordsWith, Read, loadedAs, slotNo, share, Partly}
 use Rattle.loading.specs.declared.Loaded.the-variants.{Fine, Bad}
 use Rattle.loading.proofs.ZeroBits.{bit-most}
 use Rattle.sheet.proofs.Lists.{getD-zeros}
@@ -64,8 +64,8 @@ module _ (h : Header) (long : ℕ) (bs : List ℕ) (plan : ℕ → ℕ) where
       ]
 
   -- whether a plane is fine, by where it stands
-  pub fine-at : (k p : ℕ) → fine h long bs k p ≡ fineAt bs (long + cellBytes * cellsBefore h k p) (layerSize (h .shape) k) (planeCells (h .shape) k) (eqb (suc p) (planesOf h k))
-  unfolding fine clean hasOne fineAt
+  pub fine-at : (k p : ℕ) → fine h long bs k p ≡ fineBits (bitAt bs (long + cellBytes * cellsBefore h k p)) (layerSize (h .shape) k) (planeCells (h .shape) k) (eqb (suc p) (planesOf h k))
+  unfolding fine
   fine-at k p = refl
 
   pub share-most : (t k i p : ℕ) → share h long bs plan t k i p ≤ 2 ^ p
@@ -87,7 +87,7 @@ module _ (h : Header) (long : ℕ) (bs : List ℕ) (plan : ℕ → ℕ) where
 
   pub fine-slot : (k p : ℕ) → k < L → p < placesMost
       → slotFine bs (long + cellBytes * cellsBefore h k p) (layerSize (h .shape) k) (planeCells (h .shape) k) (planesOf h k) (plan k) p ≡ not (badSlot h long bs plan (slotNo h k p))
-  unfolding slotFine asked
+  unfolding slotFine
   fine-slot k p l m =
       ap (λ (f : Bool). not (loaded h long bs plan k p) || f) (sym (fine-at k p))
       ∙ turned (loaded h long bs plan k p) (fine h long bs k p)
@@ -230,5 +230,5 @@ module _ (h : Header) (long : ℕ) (bs : List ℕ) (plan : ℕ → ℕ) where
         let on : slotNo h (k + 1) p ≡ t + 1 = omega arith in
         rw on
         (by (asked (planesOf h k) (plan k) p)
-        (λ a. rw (e ∙ slot-adds bs from (layerSize (h .shape) k) (planeCells (h .shape) k) (planesOf h k) (plan k) p ws (blockStart (h .shape) k) a f) (partly-more (unfold asked in a)))
-        (λ a. rw (e ∙ slot-none bs from (layerSize (h .shape) k) (planeCells (h .shape) k) (planesOf h k) (plan k) p ws (blockStart (h .shape) k) a .1) (partly-same (unfold asked in a))))
+        (λ a. rw (e ∙ slot-adds bs from (layerSize (h .shape) k) (planeCells (h .shape) k) (planesOf h k) (plan k) p ws (blockStart (h .shape) k) a f) (partly-more a))
+        (λ a. rw (e ∙ slot-none bs from (layerSize (h .shape) k) (planeCells (h .shape) k) (planesOf h k) (plan k) p ws (blockStart (h .shape) k) a .1) (partly-same a)))

@@ -19,26 +19,37 @@ use Rattle.packing.specs.Planes.{allBelow}
 unfoldable pub bitAt : List ℕ → ℕ → ℕ → ℕ
 bitAt bs from i = getD bs (from + i / 8) 0 / 2 ^ (i % 8) % 2
 
+-- ---- one plane: its bits, where it has n points in c cells
+-- no spare bit is set
+unfoldable pub clean : (ℕ → ℕ) → ℕ → ℕ → Bool
+clean bit n c = allBelow (λ i. ltb i n || eqb (bit i) 0) (cellPoints * c)
+
+-- a point has a 1
+unfoldable pub hasOne : (ℕ → ℕ) → ℕ → Bool
+hasOne bit n = not (allBelow (λ i. eqb (bit i) 0) n)
+
+-- a plane is not fine where it "has a spare bit set, or is its layer's top plane with no 1"
+unfoldable pub fineBits : (ℕ → ℕ) → ℕ → ℕ → Bool → Bool
+fineBits bit n c top = clean bit n c && (not top || hasOne bit n)
+
+-- is the plane at place p one of the top `want` of `count`?
+abbrev pub asked : ℕ → ℕ → ℕ → Bool
+asked count want p = ltb p count && leb count (p + want)
+
 -- ---- the planes in a card's bytes: the header h, `long` bytes of it, then the planes
 module _ (h : Header) (long : ℕ) (bs : List ℕ) where
   -- bit i of layer k's plane at place p
   abbrev pub bitOf : ℕ → ℕ → ℕ → ℕ
   bitOf k p = bitAt bs (long + cellBytes * cellsBefore h k p)
 
-  -- "8, .. a plane of the plan has a spare bit set, or is its layer's top plane with no 1"
-  unfoldable pub clean : ℕ → ℕ → Bool
-  clean k p = allBelow (λ i. ltb i (layerSize (h .shape) k) || eqb (bitOf k p i) 0) (cellPoints * planeCells (h .shape) k)
-
-  unfoldable pub hasOne : ℕ → ℕ → Bool
-  hasOne k p = not (allBelow (λ i. eqb (bitOf k p i) 0) (layerSize (h .shape) k))
-
+  -- is that plane fine?
   unfoldable pub fine : ℕ → ℕ → Bool
-  fine k p = clean k p && (not (eqb (suc p) (planesOf h k)) || hasOne k p)
+  fine k p = fineBits (bitOf k p) (layerSize (h .shape) k) (planeCells (h .shape) k) (eqb (suc p) (planesOf h k))
 
   module _ (plan : ℕ → ℕ) where
     -- is layer k's plane at place p one of the plan? It loads them from the top
     abbrev pub loaded : ℕ → ℕ → Bool
-    loaded k p = ltb p (planesOf h k) && leb (planesOf h k) (p + plan k)
+    loaded k p = asked (planesOf h k) (plan k) p
 
     -- "in card order": slot t is place 22 - t / K of layer t % K, K layers in all. The first slot of the plan with a plane that is not fine
     abbrev pub slotLayer : ℕ → ℕ

@@ -13,9 +13,8 @@ use Rattle.sheet.specs.Sheet.{points, layers, layerSize, placeIn, inLayer}
 use Rattle.layers.specs.Layering.{ownLayer}
 use Rattle.header.specs.declared.Header.{Header}
 use Rattle.header.specs.Header.{placesMost, cellBytes, cellPoints, planeCells}
-use Rattle.packing.specs.Planes.{allBelow}
 use Rattle.packing.specs.Words.{blockStart, wordsMost}
-use Rattle.loading.specs.InBytes.{bitAt, bitOf, loaded, slots, slotLayer, badSlot, firstBad, wordRead}
+use Rattle.loading.specs.InBytes.{bitAt, fineBits, asked, bitOf, loaded, slots, slotLayer, badSlot, firstBad, wordRead}
 use Rattle.loading.specs.declared.Placed.{Placed}
 use Rattle.loading.specs.declared.Placed.the-variants as Placed
 use Rattle.loading.specs.declared.Loaded.{Loaded}
@@ -70,19 +69,9 @@ halved table = tabulate halfBits (λ i. getD table i 0 / 2)
 unfoldable pub added : List ℕ → List ℕ → ℕ → ℕ → ℕ
 added table bs from i = getD table (4 * halfAt bs from (i / 4) + i % 4) 0
 
--- ---- one plane
--- a plane's bits at `from`, n points of c cells: no spare bit, and a 1 where it is the top plane
-unfoldable pub fineAt : List ℕ → ℕ → ℕ → ℕ → Bool → Bool
-fineAt bs from n c top =
-    allBelow (λ i. ltb i n || eqb (bitAt bs from i) 0) (cellPoints * c) && (not top || not (allBelow (λ i. eqb (bitAt bs from i) 0) n))
-
--- is the plane at place p one of the `want` top ones of `count`?
-unfoldable pub asked : ℕ → ℕ → ℕ → Bool
-asked count want p = ltb p count && leb count (p + want)
-
--- one slot: is its plane fine or not asked for, and the words after it
+-- ---- one slot: is the plane at `from` fine or not asked for, and the words after it
 unfoldable pub slotFine : List ℕ → ℕ → ℕ → ℕ → ℕ → ℕ → ℕ → Bool
-slotFine bs from n c count want p = not (asked count want p) || fineAt bs from n c (eqb (suc p) count)
+slotFine bs from n c count want p = not (asked count want p) || fineBits (bitAt bs from) n c (eqb (suc p) count)
 
 unfoldable pub slotWords : List ℕ → ℕ → ℕ → ℕ → ℕ → ℕ → ℕ → List ℕ → ℕ → List ℕ
 slotWords bs from n c count want p ws start =

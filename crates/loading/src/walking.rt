@@ -1,7 +1,7 @@
 // Planes from a card's bytes in card order: checked, and added to the words.
 ghost use mathlib.Core.Path.{_≡_};
-ghost use mathlib.Core.Bool.{true, _||_};
-ghost use lib.Dec.{ltb, eqb};
+ghost use mathlib.Core.Bool.{true};
+ghost use lib.Dec.{eqb};
 ghost use Prim.Native.Nat.{ℕ, _+_, _*_, _-_, _^_, _<_, _≤_};
 ghost use lib.ListN.{length, getD, replicate};
 ghost use Rattle.sheet.specs.Limits.{layersMost};
@@ -51,7 +51,7 @@ fn all_zero(bytes: &[u8], from: usize, to: usize) -> bool
 // Are the spare bits of a plane of n points 0? They begin inside byte n / 8.
 fn spare_zero(bytes: &[u8], from: usize, n: usize, cells: usize) -> bool
     requires { ⌜ (n ≤ Hd.cellPoints * cells) × (cells ≤ wordsMost) × (from + Hd.cellBytes * cells ≤ length (now bytes)) ⌝ }
-    ensures { λ r. ⌜ r ≡ P.allBelow (λ i. ltb i n || eqb (L.bitAt (now (bytes .entry)) from i) 0) (Hd.cellPoints * cells) ⌝ }
+    ensures { λ r. ⌜ r ≡ L.clean (L.bitAt (now (bytes .entry)) from) n cells ⌝ }
 {
     let end = from + CELL_BYTES * cells;
     let part = from + n / 8;
@@ -67,7 +67,7 @@ fn spare_zero(bytes: &[u8], from: usize, n: usize, cells: usize) -> bool
 // Is a plane of n points fine: no spare bit set, and a 1 where it is its layer's top plane?
 pub(crate) fn is_fine(bytes: &[u8], from: usize, n: usize, cells: usize, top: bool) -> bool
     requires { ⌜ (n ≤ Hd.cellPoints * cells) × (cells ≤ wordsMost) × (from + Hd.cellBytes * cells ≤ length (now bytes)) ⌝ }
-    ensures { λ r. ⌜ r ≡ W.fineAt (now (bytes .entry)) from n cells top ⌝ }
+    ensures { λ r. ⌜ r ≡ L.fineBits (L.bitAt (now (bytes .entry)) from) n cells top ⌝ }
 {
     if !spare_zero(bytes, from, n, cells) {
         return false;
@@ -93,7 +93,7 @@ fn load_slot(
     start: usize,
 ) -> bool
     requires { ⌜ (p < Hd.placesMost) × (count ≤ Hd.placesMost) × (n ≤ Hd.cellPoints * cells) × (cells ≤ wordsMost) × (start + Hd.cellPoints * cells ≤ length (now words)) × (now table ≡ W.halves p) ⌝ }
-    requires { ⌜ (W.asked count want p ≡ true → from + Hd.cellBytes * cells ≤ length (now bytes)) × ((i : ℕ) → getD (now words) i 0 < 2 ^ 31) ⌝ }
+    requires { ⌜ (L.asked count want p ≡ true → from + Hd.cellBytes * cells ≤ length (now bytes)) × ((i : ℕ) → getD (now words) i 0 < 2 ^ 31) ⌝ }
     ensures { λ r. ⌜ (r ≡ W.slotFine (now (bytes .entry)) from n cells count want p) × (now (words .exit) ≡ W.slotWords (now (bytes .entry)) from n cells count want p (now (words .entry)) start) ⌝ }
 {
     if count <= p {

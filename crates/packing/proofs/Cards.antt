@@ -23,10 +23,8 @@ use Rattle.sheet.proofs.Lists.{getD-tabulate}
 use Rattle.sheet.proofs.Places.{place-in}
 use Rattle.header.specs.declared.Header.{Header}
 use Rattle.header.specs.Header.{placesMost, cellBytes, cellsMost, cellsOf, textMost, headerText}
-use Rattle.header.specs.Plan.{firstOver}
 use Rattle.header.specs.Opening.{planesMost, cellsNamed, right}
-use Rattle.header.proofs.Rightness.{Right, right-yes, right-by, most-some, few-planes}
-use Rattle.header.proofs.Over.{none-over}
+use Rattle.header.proofs.Rightness.{Right, counts-by, right-yes, right-by, most-some, few-planes}
 use Rattle.text.proofs.Stores.{sets-sets}
 use Rattle.header.proofs.TextLength.{right-fits}
 use Rattle.header.proofs.Total.{right-cells}
@@ -68,9 +66,7 @@ module _ (sh : Shape) (ok : accepted sh ≡ true) (qs : List ℤ) where
   -- so their cells are named
   pub cells-named : cellsNamed sh (countsFor sh qs) ≡ cellsOf sh (countsFor sh qs)
   unfolding cellsNamed
-  cells-named =
-      let over : firstOver (planesMost sh) (λ k. getD (countsFor sh qs) k 0) ≡ layersMost = none-over (planesMost sh) (λ k. getD (countsFor sh qs) k 0) (counts-most sh qs) in
-      rw (ok, eq-eqb (firstOver (planesMost sh) (λ k. getD (countsFor sh qs) k 0)) layersMost over)
+  cells-named = rw (counts-by sh (countsFor sh qs) (record { shape = ok; counts = counts-most sh qs }))
 
   module _ (curve : Curve) (e : ℕ) (step : e ≤ stepMost) where
     -- and the header is right

@@ -1,15 +1,15 @@
 -- No spare bit is set, or the plane is not fine; and where none is, the points' bits are 0 exactly where all bytes of the plane are.
 use mathlib.Core.Path.{_≡_, sym, ap, _∙_}
-use mathlib.Core.Bool.{true, not, _||_}
+use mathlib.Core.Bool.{true, not}
 use Prim.Native.Nat.{_+_, _-_, _*_}
 use native.Mathlib.Omega.{arith}
 use borrow.Author.Tests.{not-true, not-false}
-use lib.Dec.{ltb, eqb}
+use lib.Dec.{eqb}
 use lib.ListN.{getD}
 use denote.Ref.{now}
 use Rattle.header.specs.Header.{cellBytes, cellPoints}
 use Rattle.packing.specs.Planes.{allBelow}
-use Rattle.loading.specs.InBytes.{bitAt}
+use Rattle.loading.specs.InBytes.{bitAt, clean, hasOne}
 use Rattle.loading.proofs.ZeroBits.{points-bits}
 use Rattle.loading.proofs.SlotTests.{fine-spare, fine-top, fine-lower}
 use borrow.Author.Needs.{needs}
@@ -33,9 +33,10 @@ all-zero-requires : tie.Need-all-zero-requires
 all-zero-requires c κs = search needs
 
 returns-2 : tie.Need-returns-2
+unfolding clean hasOne
 returns-2 c = let s = c .before .before .before .before .before in
     let bs = now (s .args .bytes) in
-    let none : allBelow (λ i. ltb i (s .args .n) || eqb (bitAt bs (s .args .from) i) 0) (cellPoints * s .args .cells) ≡ true = sym (c .before .before .before .spare-zero .ensures) ∙ not-false (c .before .before .before .spare-zero .result) (c .before .before .if1 .left) in
+    let none : clean (bitAt bs (s .args .from)) (s .args .n) (s .args .cells) ≡ true = sym (c .before .before .before .spare-zero .ensures) ∙ not-false (c .before .before .before .spare-zero .result) (c .before .before .if1 .left) in
     let long : s .args .from + cellBytes * s .args .cells - s .args .from ≡ cellBytes * s .args .cells = omega arith in
     ap not (c .all-zero .ensures ∙ ap (allBelow (λ b. eqb (getD bs (s .args .from + b) 0) 0)) long
     ∙ points-bits bs (s .args .from) (λ i. omega (arith, c .before .before .before .before .shared-slice-known .given i)) (s .args .n) (cellBytes * s .args .cells) (cellPoints * s .args .cells) (omega arith) (omega arith) none)

@@ -23,7 +23,7 @@ use Rattle.header.proofs.Cells.{size-there, cells-there}
 use Rattle.header.proofs.Rightness.{Right, right-yes, layers-few, few-planes}
 use Rattle.loading.specs.InBytes.{badSlot}
 use Rattle.packing.specs.Words.{wordsMost, blockStart}
-use Rattle.loading.specs.Words.{asked, slotWords, slotNo, Partly, FineBefore}
+use Rattle.loading.specs.Words.{slotWords, slotNo, Partly, FineBefore}
 use Rattle.packing.proofs.Blocks.{block-none, block-next, block-room}
 use Rattle.loading.proofs.SlotOrder.{cells-next, cells-few}
 use Rattle.loading.proofs.SlotTests.{fine-same, words-same, slot-length}
@@ -165,7 +165,6 @@ add-from : tie.Need-add-from Inv-loop μ-loop
 add-from c = let i = c .before .before in omega (arith, few-cells i, S (i .before) .pre .0 .1, S (i .before) .good)
 
 load-slot-requires : tie.Need-load-slot-requires Inv-loop μ-loop
-unfolding asked
 load-slot-requires c κs =
     let i = c .before .before .before in
     let s = S (i .before) in

@@ -8,8 +8,8 @@ use denote.Ref.{now}
 use native.Mathlib.Numerals.{add-one}
 use lib.Dec.{eqb}
 use Rattle.header.specs.Header.{cellPoints}
-use Rattle.loading.specs.InBytes.{bitAt}
-use Rattle.loading.specs.Words.{asked, fineAt, added, wordsWith}
+use Rattle.loading.specs.InBytes.{bitAt, fineBits, asked}
+use Rattle.loading.specs.Words.{added, wordsWith}
 use Rattle.loading.proofs.PlaneSums.{with-zeros}
 use Rattle.loading.proofs.HalfBytes.{half-small, with-added}
 use Rattle.loading.proofs.SlotTests.{fine-zeros, asked-yes, asked-less, asked-out, slot-none, slot-bad, slot-good}
@@ -29,7 +29,7 @@ is-asked c = asked-yes (S c .args .count) (S c .args .want) (S c .args .p) (omeg
 
 -- whether the plane is fine as the q-th of its layer, whose last is the top one
 abbrev fine : tie.Start → ℕ → Bool
-fine s q = fineAt (now (s .args .bytes)) (s .args .from) (s .args .n) (s .args .cells) (eqb q (s .args .count))
+fine s q = fineBits (bitAt (now (s .args .bytes)) (s .args .from)) (s .args .n) (s .args .cells) (eqb q (s .args .count))
 
 fine-is : (c : tie.After-is-fine) (r : Bool) → c .is-fine .result ≡ r → fine (S (c .before)) (suc (S (c .before) .args .p)) ≡ r
 fine-is c r e = ap (fine (S (c .before))) (sym (add-one (S (c .before) .args .p))) ∙ sym (c .is-fine .ensures) ∙ e

@@ -4,6 +4,7 @@ use Prim.Native.Nat.{_+_, _*_, _/_}
 use native.Mathlib.Omega.{arith}
 use denote.Ref.{now}
 use Rattle.header.specs.Header.{cellBytes, cellPoints}
+use Rattle.loading.specs.InBytes.{clean}
 use Rattle.loading.proofs.ZeroBits.{spare-whole, spare-inside, spare-set}
 use borrow.Author.Needs.{needs}
 use Rattle.loading.proofs.walking.spare_zero.Statement.{statement}
@@ -22,6 +23,7 @@ all-zero-requires : tie.Need-all-zero-requires
 all-zero-requires c κs = search needs
 
 returns : tie.Need-returns
+unfolding clean
 returns c = let s = c .before .before .before in
     c .all-zero .ensures
     ∙ spare-whole (now (s .args .bytes)) (s .args .from) (λ i. omega (arith, c .before .before .shared-slice-known .given i)) (s .args .n) (cellBytes * s .args .cells) (cellPoints * s .args .cells) (omega arith) (omega arith) (c .before .if1 .taken) _ _ refl refl
@@ -36,6 +38,7 @@ shr-if2 : tie.Need-shr-if2
 shr-if2 c = search needs
 
 returns-2 : tie.Need-returns-2
+unfolding clean
 returns-2 c = let s = c .before .before .before .before in
     sym (spare-set (now (s .args .bytes)) (s .args .from) (λ i. omega (arith, c .before .before .before .shared-slice-known .given i)) (s .args .n) (cellBytes * s .args .cells) (cellPoints * s .args .cells) (omega arith) (omega arith) (s .args .from + s .args .n / 8) refl (c .if2 .taken) (c .before .before .if1 .left))
 
@@ -46,6 +49,7 @@ all-zero-requires-2 : tie.Need-all-zero-requires-2
 all-zero-requires-2 c κs = search needs
 
 returns-3 : tie.Need-returns-3
+unfolding clean
 returns-3 c = let s = c .before .before .before .before .before in
     c .all-zero2 .ensures
     ∙ spare-inside (now (s .args .bytes)) (s .args .from) (λ i. omega (arith, c .before .before .before .before .shared-slice-known .given i)) (s .args .n) (cellBytes * s .args .cells) (cellPoints * s .args .cells) (omega arith) (omega arith) (c .before .before .before .if1 .left) _ _ refl refl (c .before .if2 .left)
