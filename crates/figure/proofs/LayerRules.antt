@@ -1,15 +1,12 @@
--- The rules of a layer: the rule that is told carries as the layer does, which rises strictly and at most doubles what stands; and of a right header the charge that is told is the layer's, far below 2^40.
-use mathlib.Core.Bool.{Bool, true, false, cond}
-use mathlib.Core.Path.{_≡_, refl, ap}
+-- The rules of a layer: carrying rises strictly and at most doubles what stands, so what the call tells of a small number is just that; and of a right header the charge that is told is the layer's, far below 2^40.
+use mathlib.Core.Path.{_≡_, ap}
 use Prim.Native.Nat.{ℕ, _*_, _^_, _<_, _≤_}
 use native.Mathlib.Omega.{arith}
 use borrow.Author.Tests.{lt-ltb, le-leb}
-use lib.Dec.{eqb}
 use Rattle.integers.specs.Floor.{ceilDiv}
 use Rattle.sheet.specs.declared.Curve.{Curve}
 use Rattle.sheet.specs.declared.Curve.the-variants.{Linear, Cubic}
-use Rattle.sheet.specs.Sheet.{sizeAt}
-use Rattle.layers.specs.Carry.{carried, carry}
+use Rattle.layers.specs.Carry.{carried}
 use Rattle.sheet.specs.Limits.{layersMost}
 use Rattle.layers.proofs.Carry.{carried-rising}
 use Rattle.header.specs.declared.Header.{Header}
@@ -26,29 +23,18 @@ carried-double Linear m = omega arith
 carried-double Cubic m = omega arith
 
 module _ (h : Header) (k : ℕ) where
-  rule-carries : (m : ℕ) → carried (ruleOf h k .curve) m ≡ carryOf h k m
-  unfolding ruleOf carryOf carried
-  rule-carries m = step (eqb (sizeAt (h .shape) k) 0)
-    where
-      step : (t : Bool) → carried (cond t Linear (h .curve)) m ≡ cond t m (carry (h .shape) (h .curve) k m)
-      step true = refl
-      step false = refl
-
   -- a number that is not too large is carried to one that fits
   pub carried-told : (rule : Rule) (m : ℕ) → rule ≡ ruleOf h k → 2 * m < 2 ^ 64 → carriedIn rule m ≡ carryOf h k m
-  carried-told rule m e l =
-      omega (arith, carried-double (rule .curve) m, ap (λ (x : Rule). carried (x .curve) m) e, rule-carries m)
+  unfolding carryOf
+  carried-told rule m e l = omega (arith, carried-double (rule .curve) m, ap (λ (x : Rule). carried (x .curve) m) e)
 
   pub carry-double : (m : ℕ) → carryOf h k m ≤ 2 * m
-  carry-double m = omega (arith, rule-carries m, carried-double (ruleOf h k .curve) m)
+  unfolding carryOf
+  carry-double m = carried-double (ruleOf h k .curve) m
 
   pub carry-rising : (a b : ℕ) → a < b → carryOf h k a < carryOf h k b
   unfolding carryOf
-  carry-rising a b l = step (eqb (sizeAt (h .shape) k) 0)
-    where
-      step : (t : Bool) → cond t a (carry (h .shape) (h .curve) k a) < cond t b (carry (h .shape) (h .curve) k b)
-      step true = l
-      step false = carried-rising (h .curve) a b l
+  carry-rising a b l = carried-rising (ruleOf h k .curve) a b l
 
 -- ---- what a layer adds
 module _ {h : Header} (r : Right h) (k n : ℕ) (l : k < layersMost) where

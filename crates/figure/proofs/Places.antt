@@ -14,7 +14,7 @@ use Rattle.header.specs.declared.Header.{Header}
 use Rattle.header.specs.Header.{planesOf}
 use Rattle.header.proofs.Cells.{size-there, size-past}
 use Rattle.header.proofs.Rightness.{Right, layers-few, counts-past, counts-empty}
-use Rattle.figure.specs.Figure.{ownLoss, figureOf, carryOf, chargeOf}
+use Rattle.figure.specs.Figure.{ownLoss, figureOf, ruleOf, carryOf, chargeOf}
 use Rattle.figure.proofs.Figures.{standing-small, standing-most}
 
 -- what stands after the first k places, n k planes of layer k being loaded
@@ -25,7 +25,7 @@ standing h n (suc k) = carryOf h k (standing h n k) + chargeOf h k (n k)
 module _ {h : Header} (r : Right h) (n : ℕ → ℕ) where
   -- a layer without points
   still : (k : ℕ) → sizeAt (h .shape) k ≡ 0 → planesOf h k ≡ 0 → standing h n (suc k) ≡ standing h n k
-  unfolding standing carryOf chargeOf
+  unfolding standing carryOf ruleOf C.carried chargeOf
   still k s e =
       let z : planesOf h k - n k ≡ 0 = omega arith in
       rw (s, z, loss-none) (omega arith)
@@ -33,7 +33,7 @@ module _ {h : Header} (r : Right h) (n : ℕ → ℕ) where
   -- any other
   moved : (k : ℕ) → (sizeAt (h .shape) k ≡ 0 → ⊥)
       → standing h n (suc k) ≡ C.carry (h .shape) (h .curve) k (standing h n k) + ownLoss h n k
-  unfolding standing carryOf chargeOf
+  unfolding standing carryOf ruleOf chargeOf
   moved k s = rw (ne-eqb (sizeAt (h .shape) k) 0 s)
 
   stands : (k : ℕ) → k ≤ layers (h .shape) → standing h n k ≡ C.standing (h .shape) (h .curve) (ownLoss h n) k

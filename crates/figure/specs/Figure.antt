@@ -42,15 +42,15 @@ boundOf h plan =
 unfoldable pub ruleOf : Header → ℕ → Rule
 ruleOf h k = record { curve = cond (eqb (sizeAt (h .shape) k) 0) Linear (h .curve) }
 
+-- what layer k carries M to: as its rule does
+unfoldable pub carryOf : Header → ℕ → ℕ → ℕ
+carryOf h k m = C.carried (ruleOf h k .curve) m
+
 -- what a rule carries M to, as the call answers it: the largest number where that does not fit
 abbrev pub carriedIn : Rule → ℕ → ℕ
 carriedIn rule m = min (C.carried (rule .curve) m) (2 ^ 64 - 1)
 
--- what layer k carries M to
-unfoldable pub carryOf : Header → ℕ → ℕ → ℕ
-carryOf h k m = cond (eqb (sizeAt (h .shape) k) 0) m (C.carry (h .shape) (h .curve) k m)
-
--- what it adds of its own where n of its planes are loaded
+-- what layer k adds of its own where n of its planes are loaded
 unfoldable pub chargeOf : Header → ℕ → ℕ → ℕ
 chargeOf h k n = ownLoss h (λ _. n) k
 
