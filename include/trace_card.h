@@ -2,7 +2,8 @@
  *
  * Every function returns the refusal's number, 0 where the call is accepted. A slice is a pointer to so many elements, then their number; the pointer
  * has to be valid for them (and not null, even of none), and slices that a call writes to must not overlap others. Coefficients and values have rows x cols elements each, or the call
- * is refused (3). A refused call changes nothing but the answer.
+ * is refused (3). A refused call leaves the caller's coefficients, values and output as they were. answer is the call's report, which a refused call
+ * fills too, except where answer or plan has a wrong length: then nothing at all is written.
  *
  * answer has 24 numbers: [0] the refusal's number, [1] and [2] its details, [3] the card's length (write) or the plan's cells (planning),
  * [4] the figure, [5] to [17] the plan that was reached, given or found; what a call does not answer is 0, and beside a refusal all but [0] to [2]
@@ -10,7 +11,7 @@
  *
  * curve is 0 for linear and 1 for cubic; any other number is refusal 2. plan has 13 numbers: the planes loaded from the top of each layer, 0 past
  * the last. Refusals: 1 a size, 2 levels, curve or step, 3 a slice's length, 4 a sample out of range (row, column), 5 the header is cut, 6 a wrong
- * line (which), 7 bytes follow the last cell, 8 a plane that cannot be (layer), 9 a plan that asks too much (place), 10 a limit below the
+ * line (which), 7 bytes follow the last cell, 8 a plane that cannot be (layer), 9 a plan that asks too much (place; in refine also the layer), 10 a limit below the
  * step, 11 a coefficient out of range.
  */
 #ifndef TRACE_CARD_H
@@ -18,10 +19,40 @@
 
 #include <stddef.h>
 #include <stdint.h>
+#include <string.h>
 
 #ifdef __cplusplus
 extern "C" {
 #endif
+
+/* The lengths of answer and plan, the most points of a sheet, and the most bytes of a card. */
+#define TRACE_CARD_ANSWER_LENGTH 24
+#define TRACE_CARD_PLAN_LENGTH 13
+#define TRACE_CARD_MOST_POINTS 8192
+#define TRACE_CARD_MOST_BYTES 32768
+
+/* The numbers of an answer, in their order, with names. */
+struct trace_card_answer {
+    uint64_t refusal;
+    uint64_t details[2];
+    uint64_t size; /* of the card in bytes (write) or of the plan in cells (planning) */
+    uint64_t figure;
+    uint64_t plan[TRACE_CARD_ANSWER_LENGTH - 5]; /* the first TRACE_CARD_PLAN_LENGTH are the plan, the rest is 0 */
+};
+
+#ifdef __cplusplus
+static_assert(sizeof(struct trace_card_answer) == TRACE_CARD_ANSWER_LENGTH * sizeof(uint64_t), "a name for each number");
+#elif __STDC_VERSION__ >= 201112L
+_Static_assert(sizeof(struct trace_card_answer) == TRACE_CARD_ANSWER_LENGTH * sizeof(uint64_t), "a name for each number");
+#endif
+
+/* The numbers that a call has put into its answer, with names. They are copied, so that the plan can be given to a call that fills the same
+ * answer again. */
+static inline struct trace_card_answer trace_card_answer_of(const uint64_t numbers[TRACE_CARD_ANSWER_LENGTH]) {
+    struct trace_card_answer answer;
+    memcpy(&answer, numbers, sizeof answer);
+    return answer;
+}
 
 /* Writes a sheet of rows by cols samples: its coefficients, the values as they will be read, and the card at the front of output, which
  * has room for 32,768 bytes or more. */

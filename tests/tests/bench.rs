@@ -1,9 +1,9 @@
-//! Every line of "Worked on the bench", by the model; `comparison/bench.rs` has the calls by the
-//! proved code too.
+//! The bench card and the ends (docs/CARD.md, "Worked examples"), by the model; `comparison/bench.rs`
+//! has the calls by the proved code too, and `document.rs` the document's own words.
 
 mod common;
 
-use common::{bench, card_of, header_lines, plan, refusal};
+use common::{bench, card_of, header_lines, highest_first, plan, refusal};
 use trace_card_tests::model::digits::{digits_of, weight};
 use trace_card_tests::model::figure::{carry, loss};
 use trace_card_tests::model::predict::cubic;
@@ -94,7 +94,7 @@ fn its_plans() {
     let card = bench::card();
     for (limit, planned) in bench::planned_by_limit() {
         assert_eq!(plan_by_limit(&card, limit), Ok(planned));
-        // The planner works "as if every plane were there".
+        // The planner goes by the header alone.
         assert_eq!(plan_by_limit(&card[..64], limit), Ok(planned));
     }
     assert_eq!(figure(&card, &plan(&[3, 1])), Ok(7), "3,1,0 ties");
@@ -106,13 +106,6 @@ fn its_plans() {
 
 #[test]
 fn the_digits() {
-    let highest_first = |q| -> String {
-        digits_of(q)
-            .iter()
-            .rev()
-            .map(|digit| digit.to_string())
-            .collect()
-    };
     assert_eq!(highest_first(-1), "11");
     assert_eq!(highest_first(2), "110");
     assert_eq!(highest_first(5), "101");
@@ -199,7 +192,7 @@ fn the_program_prints() {
         "rows=1\ncols=5\nloaded=3,0,0\nfigure=10\nrow=12,12,12,24,36\n"
     );
     assert_eq!(shown(&card[..63]), "refused=5\n");
-    // "a minus sign before negative ones"; -1 is 11 in digits, and each row has its line.
+    // A value below 0 has its sign: -1 is 11 in digits; and each row has its line.
     let two_rows = card_of(&header_lines((2, 1), 0, "linear", 0, &[2], 2), &[2, 3]);
     assert_eq!(
         shown(&two_rows),

@@ -1,5 +1,5 @@
-//! What is asked of writing, reading, refining and planning together, of the model on random
-//! sheets.
+//! What is asked of writing, reading, refining and planning together (docs/CARD.md, "The three
+//! demands"), of the model on random sheets.
 
 mod common;
 

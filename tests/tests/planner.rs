@@ -12,7 +12,7 @@ use trace_card_tests::random::cases::{small_size, step, Case, CURVES, LARGE_SIZE
 use trace_card_tests::random::plans::plan_within;
 use trace_card_tests::random::Random;
 
-/// A header as text. The planner works "as if every plane were there", so none is.
+/// A header as text. The planner goes by it as if every plane were there, so none is.
 fn header(
     (rows, cols): (u64, u64),
     levels: u64,
@@ -104,7 +104,7 @@ fn answer(card: &[u8], goal: Goal) -> Option<Planned> {
     }
 }
 
-/// Does the first answer come before the second, in the words of document 01?
+/// Does the first answer come before the second (docs/CARD.md, "The planner")?
 fn before(goal: Goal, first: &Planned, second: &Planned) -> bool {
     let by_cells = first.cells.cmp(&second.cells);
     let by_figure = first.figure.cmp(&second.figure);

@@ -1,36 +1,28 @@
-//! The program `show`, as `rt check` builds it, against the model: what it prints of any input.
-//! Then the files that the project keeps of its runs, and the example cards, against the model.
+//! The program `show`, as `rt check` builds it, against the model: what it prints of any input, and
+//! of files by name. Then the kept run of the program, and the example cards, against the model.
 
 mod common;
 
 use common::bench;
+use common::files::{bytes, file, text};
 use std::io::Write;
-use std::path::{Path, PathBuf};
+use std::path::Path;
 use std::process::{Command, Stdio};
 use trace_card_tests::model::{open, program::shown, Curve};
 use trace_card_tests::random::cases::{Case, LARGE_SIZES};
 use trace_card_tests::random::sheets::Kind;
 use trace_card_tests::random::Random;
 
-/// A file of the project, named from its root.
-fn file(name: &str) -> PathBuf {
-    Path::new(env!("CARGO_MANIFEST_DIR")).join("..").join(name)
-}
-
-fn bytes(name: &str) -> Vec<u8> {
-    std::fs::read(file(name)).unwrap_or_else(|error| panic!("{name}: {error}"))
-}
-
-fn text(name: &str) -> String {
-    String::from_utf8(bytes(name)).unwrap_or_else(|error| panic!("{name}: {error}"))
-}
-
-/// What the program prints with these bytes on its standard input.
-fn printed(input: &[u8]) -> String {
+/// A run of the program in this folder, with these arguments and with these bytes on its standard
+/// input: what it prints, and what it says on standard error.
+fn run(folder: &Path, names: &[&str], input: &[u8]) -> (String, String) {
     let program = file("target/bin/show");
     let mut child = Command::new(&program)
+        .args(names)
+        .current_dir(folder)
         .stdin(Stdio::piped())
         .stdout(Stdio::piped())
+        .stderr(Stdio::piped())
         .spawn()
         .unwrap_or_else(|error| {
             panic!("{}: {error}; run `rt check show` first", program.display())
@@ -42,11 +34,12 @@ fn printed(input: &[u8]) -> String {
     let output = child.wait_with_output().unwrap();
     writer.join().unwrap();
     assert!(output.status.success());
-    String::from_utf8(output.stdout).unwrap()
+    let text = |bytes| String::from_utf8(bytes).unwrap();
+    (text(output.stdout), text(output.stderr))
 }
 
 fn check(input: &[u8]) {
-    assert_eq!(printed(input), shown(input));
+    assert_eq!(run(&file("."), &[], input), (shown(input), String::new()));
 }
 
 #[test]
@@ -115,16 +108,61 @@ fn input_of_any_length() {
     }
 }
 
-/// `rt` holds the run of `show_cases` to its file `stdout`. That file is, for each card that `args`
-/// names, in order, a line with the name and what the model shows of the card; nothing else.
+/// What is printed of a card that an argument names: a line with the name before it.
+fn named(name: &str, card: &[u8]) -> String {
+    format!("{name}:\n{}", shown(card))
+}
+
+/// Files by name, in the order of the arguments; standard input is left alone. A name that is not
+/// there, wherever it stands, is said to be so, and the others are shown.
+#[test]
+fn cards_by_name() {
+    let mut random = Random::new(584);
+    let card = Case::of_size(&mut random, 9, 6).write().card;
+    let files = [
+        ("whole", card.clone()),
+        ("half", card[..card.len() / 2].to_vec()),
+        ("empty", vec![]),
+        ("long", [vec![b'7'; 50_000], vec![10]].concat()),
+        ("longer", [card.clone(), vec![0; 50_000]].concat()),
+        ("again", card.clone()),
+    ];
+    let folder = Path::new(env!("CARGO_TARGET_TMPDIR")).join("cards_by_name");
+    std::fs::create_dir_all(&folder).unwrap();
+    let mut expected = String::new();
+    for (name, bytes) in &files {
+        std::fs::write(folder.join(name), bytes).unwrap();
+        expected += &named(name, bytes);
+    }
+    let names: Vec<&str> = files.iter().map(|(name, _)| *name).collect();
+    assert_eq!(
+        run(&folder, &names, &card),
+        (expected.clone(), String::new())
+    );
+    let error = "missing: cannot be opened\n";
+    for at in 0..=names.len() {
+        let mut names = names.clone();
+        names.insert(at, "missing");
+        assert_eq!(
+            run(&folder, &names, &card),
+            (expected.clone(), error.to_string())
+        );
+    }
+    assert_eq!(
+        run(&folder, &["missing"], &card),
+        (String::new(), error.to_string())
+    );
+}
+
+/// `rt` holds the run of `show` to its file `stdout`. That file is, for each card that `args` names,
+/// in order, what the model shows of it, its name before it; nothing else.
 #[test]
 fn the_kept_run_on_many_cards() {
-    let stdout = text("crates/show_cases/stdout");
+    let stdout = text("crates/show/stdout");
     assert!(!stdout.is_empty());
     let mut rest = stdout.as_str();
-    for name in text("crates/show_cases/args").lines() {
-        let card = bytes(&format!("crates/show_cases/data/{name}"));
-        let part = format!("{name}:\n{}", shown(&card));
+    for name in text("crates/show/args").lines() {
+        let part = named(name, &bytes(&format!("crates/show/data/{name}")));
         rest = rest
             .strip_prefix(part.as_str())
             .unwrap_or_else(|| panic!("the model gives\n{part}and the file goes on\n{rest}"));
@@ -132,16 +170,7 @@ fn the_kept_run_on_many_cards() {
     assert_eq!(rest, "");
 }
 
-#[test]
-fn the_kept_run_on_one_card() {
-    assert_eq!(
-        text("crates/show/stdout"),
-        shown(&bytes("crates/show/stdin"))
-    );
-}
-
-/// The sheet of `axles.txt`, a line for each row, with the settings of its card: "the figure 5,
-/// which is its step" is README's; the levels and the curve are said on the card alone.
+/// The sheet of `axles.txt`, a line for each row, with the settings that README says.
 fn axles() -> Case {
     let rows: Vec<Vec<i32>> = text("examples/axles.txt")
         .lines()

@@ -9,7 +9,8 @@ use lib.Dec.{ltb, eqb}
 use lib.IntN.{ℤ}
 use lib.ListN.{length, drop, length-append}
 use Rattle.integers.proofs.Bools.{by, and-left, and-right, and-both}
-use Rattle.layers.specs.Calls.{settled, full, rebuildable, rebuilding}
+use Rattle.layers.specs.Samples.{full}
+use Rattle.layers.specs.Workings.Calls.{settled, rebuildable, rebuilding}
 use Rattle.layers.specs.Layering.{layering, rebuilt}
 use Rattle.sheet.specs.Limits.{layersMost, stepMost}
 use Rattle.sheet.specs.Sheet.{points}
@@ -23,18 +24,22 @@ use Rattle.header.specs.declared.Refusal.the-variants as F
 use Rattle.header.specs.Refusals.{refusal, detailsOf}
 use Rattle.header.specs.Header.{planesOf, headerText}
 use Rattle.header.specs.Plan.{loads, firstOver}
-use Rattle.header.specs.Opening.{Opening, opening, right}
+use Rattle.header.specs.Opening.{Opening, opening, wellFormed}
 use Rattle.header.specs.Opening as O
-use Rattle.order.specs.CardOrder.{whole, wholeIn, wholeOf}
-use Rattle.figure.specs.Figure.{figureOf, boundOf}
+use Rattle.order.specs.CardOrder.{slots, whole, wholeOf}
+use Rattle.order.specs.Workings.{wholeIn}
+use Rattle.figure.specs.Figure.{figureOf}
+use Rattle.figure.specs.Workings.{boundOf}
+use Rattle.figure.proofs.FigureCall.{bound-right}
 use Rattle.header.proofs.Over.{over-le}
 use Rattle.header.proofs.Rightness.{right-yes}
 use Rattle.header.proofs.Opens.{Opens, opened-right}
 use Rattle.header.proofs.Refusing.{opened-accepts}
-use Rattle.loading.specs.InBytes.{slots, firstBad, coefsRead}
-use Rattle.loading.specs.Calls.{Loading, told, loadable, loading, allWhole, wholeLoaded}
+use Rattle.loading.specs.InBytes.{firstBad, coefsRead}
+use Rattle.loading.specs.Workings.Calls.{Loading, asLoading, loadable, loading, allWhole, wholeLoaded}
 use Rattle.loading.proofs.Loads.{coefs-long, loadable-by, whole-is, plan-within}
-use Rattle.card.specs.Reading.{Reading, no, unless, goodLengths, firstRefusal, readOpened, afterOpening, finished}
+use Rattle.card.specs.Reading.{Reading, notRead, unless, goodLengths, firstRefusal, readOpened, afterOpening}
+use Rattle.card.specs.Workings.{finished}
 
 -- ---- what a reading that is not refused answers
 abbrev pub readAs : Header → ℕ → List ℕ → Plan → Reading
@@ -48,17 +53,13 @@ readAs h long bs plan =
     }
 
 -- ---- the calls that reading makes, behind a right header
-module _ (h : Header) (r : right h ≡ true) where
+module _ (h : Header) (r : wellFormed h ≡ true) where
   rebuilt-is : (qs vs : List ℤ) → length qs ≡ points (h .shape) → length vs ≡ points (h .shape)
       → rebuilding (h .shape) (h .curve) (h .step) qs vs ≡ rebuilt (layering (h .shape) (h .curve)) (h .step) qs
   unfolding rebuilding rebuildable settled full
   rebuilt-is qs vs q v =
       let s = right-yes h r in
       rw (s .shape, le-leb (h .step) stepMost (s .step), eq-eqb (length qs) (points (h .shape)) q, eq-eqb (length vs) (points (h .shape)) v)
-
-  bound-right : (plan : Plan) → firstOver (planesOf h) (loads plan) ≡ layersMost → boundOf h plan ≡ figureOf h (loads plan)
-  unfolding boundOf
-  bound-right plan e = rw (r, eq-eqb (firstOver (planesOf h) (loads plan)) layersMost e)
 
 -- ---- the lengths of the slices
 module _ (qs vs : List ℤ) (h : Header) where
@@ -82,21 +83,21 @@ module _ (qs vs : List ℤ) (h : Header) where
     lengths-differ d = rw (e, ne-eqb (length qs) (points (h .shape)) (λ q. d (q ∙ sym e)))
 
 -- ---- what follows the planes
-pub finished-yes : (r : Refusal) → r ≡ F.Accepted → (h : Header) (plan : Plan) (qs vs v : List ℤ) (n : ℕ) → v ≡ rebuilding (h .shape) (h .curve) (h .step) qs vs → n ≡ boundOf h plan
+pub finished-yes : (r : Refusal) → r ≡ F.Accepted → (h : Header) (plan : Plan) (qs vs v : List ℤ) (n : ℕ) → v ≡ rebuilding (h .shape) (h .curve) (h .step) qs vs → n ≡ boundOf h plan .figure
     → record { refused = detailsOf r; plan = plan; figure = n; coefficients = qs; values = v } ≡ finished (detailsOf r) h plan qs vs
 unfolding finished
 finished-yes r y h plan qs vs v n a b = rw y (λ i. record { refused = refusal 0 0 0; plan = plan; figure = b i; coefficients = qs; values = a i })
 
-module _ (h : Header) (r : right h ≡ true) (plan : Plan) (e : firstOver (planesOf h) (loads plan) ≡ layersMost)
+module _ (h : Header) (r : wellFormed h ≡ true) (plan : Plan) (e : firstOver (planesOf h) (loads plan) ≡ layersMost)
     (qs vs : List ℤ) (q : length qs ≡ points (h .shape)) (v : length vs ≡ points (h .shape)) where
   pub finished-is : finished (refusal 0 0 0) h plan qs vs
       ≡ record { refused = refusal 0 0 0; plan = plan; figure = figureOf h (loads plan); coefficients = qs; values = rebuilt (layering (h .shape) (h .curve)) (h .step) qs }
   unfolding finished
-  finished-is i = record { refused = refusal 0 0 0; plan = plan; figure = bound-right h r plan e i; coefficients = qs; values = rebuilt-is h r qs vs q v i }
+  finished-is i = record { refused = refusal 0 0 0; plan = plan; figure = bound-right h plan r e i; coefficients = qs; values = rebuilt-is h r qs vs q v i }
 
 -- ---- loaded planes, finished, are the reading
-module _ (h : Header) (r : right h ≡ true) (long : ℕ) (bs : List ℕ) (here : long ≤ length bs) (qs vs : List ℤ) where
-  pub read-short : goodLengths qs vs h ≡ false → (plan : Plan) → no qs vs (refusal 3 0 0) ≡ readOpened qs vs bs h long plan
+module _ (h : Header) (r : wellFormed h ≡ true) (long : ℕ) (bs : List ℕ) (here : long ≤ length bs) (qs vs : List ℤ) where
+  pub read-short : goodLengths qs vs h ≡ false → (plan : Plan) → notRead qs vs (refusal 3 0 0) ≡ readOpened qs vs bs h long plan
   unfolding readOpened firstRefusal
   read-short n plan = rw n
 
@@ -116,13 +117,13 @@ module _ (h : Header) (r : right h ≡ true) (long : ℕ) (bs : List ℕ) (here 
       finished-read =
           by (ltb asked layersMost)
           (λ t. rw (good, can-load, t) (unfold finished in refl))
-          (λ t. by (ltb bad (slots h long bs (loads plan)))
+          (λ t. by (ltb bad (slots h))
           (λ u. rw (good, can-load, t, u) (unfold finished in refl))
           (λ u. rw (good, can-load, t, u)
           (let within : asked ≡ layersMost = omega (arith, ltb-false asked layersMost t, over-le (loads (wholeOf bs h long)) (loads plan)) in
           finished-is h r plan (plan-within h r long bs plan here within) (coefsRead h long bs (loads plan)) vs (coefs-long h long bs (loads plan)) (good-lengths qs vs h good .1))))
 
-      pub loaded-read : (refusal : Refusal) (q : List ℤ) → told refusal q ≡ loading qs bs h long plan → finished (detailsOf refusal) h plan q vs ≡ readOpened qs vs bs h long plan
+      pub loaded-read : (refusal : Refusal) (q : List ℤ) → asLoading refusal q ≡ loading qs bs h long plan → finished (detailsOf refusal) h plan q vs ≡ readOpened qs vs bs h long plan
       loaded-read refusal q x = ap (λ (l : Loading). finished (l .refused) h plan (l .coefficients) vs) x ∙ finished-read
 
     -- with all whole planes: beside a refusal the plan does not matter
@@ -134,7 +135,7 @@ module _ (h : Header) (r : right h ≡ true) (long : ℕ) (bs : List ℕ) (here 
     unfolding finished
     refused-same d p p′ q z = rw z
 
-    pub whole-read : (refusal : Refusal) (q : List ℤ) (plan : Plan) → told refusal q ≡ allWhole qs bs h long → plan ≡ wholeLoaded qs bs h long
+    pub whole-read : (refusal : Refusal) (q : List ℤ) (plan : Plan) → asLoading refusal q ≡ allWhole qs bs h long → plan ≡ wholeLoaded qs bs h long
         → finished (detailsOf refusal) h plan q vs ≡ readOpened qs vs bs h long (wholeOf bs h long)
     whole-read refusal q plan x y =
         let d = detailsOf refusal in
@@ -171,7 +172,7 @@ module _ (qs vs : List ℤ) (h : Header) (whole plan : Plan) where
       (λ n. absurd (let z : 3 ≡ 0 = rw n at e in omega arith))
 
 -- as the code asks it, of the planes that are whole in the bytes
-module _ (qs vs : List ℤ) (bs : List ℕ) (h : Header) (long : ℕ) (plan : Plan) (right-header : right h ≡ true)
+module _ (qs vs : List ℤ) (bs : List ℕ) (h : Header) (long : ℕ) (plan : Plan) (right-header : wellFormed h ≡ true)
     (w : Plan) (ew : w ≡ wholeIn h (length bs - long)) (r : Refusal) (er : detailsOf r ≡ firstRefusal qs vs h w plan) where
   pub whole-here : w ≡ wholeOf bs h long
   whole-here = ew ∙ whole-is h right-header (length bs - long)
@@ -187,11 +188,11 @@ module _ (qs vs : List ℤ) (r : Refusal) (d : Details) (e : detailsOf r ≡ d) 
   pub goes-on : r ≡ F.Accepted → go ≡ unless qs vs d go
   goes-on y = rw (← e, y)
 
-  pub stops : (detailsOf r .number ≡ 0 → ⊥) → no qs vs (detailsOf r) ≡ unless qs vs d go
+  pub stops : (detailsOf r .number ≡ 0 → ⊥) → notRead qs vs (detailsOf r) ≡ unless qs vs d go
   stops n = rw (← e, ne-eqb (detailsOf r .number) 0 n)
 
 -- ---- what opening answers
-module _ (bs : List ℕ) (o : Opened) (e : O.told o ≡ opening bs) (yes : o .refusal ≡ F.Accepted) where
+module _ (bs : List ℕ) (o : Opened) (e : O.asOpening o ≡ opening bs) (yes : o .refusal ≡ F.Accepted) where
   pub opened-yes : (qs vs : List ℤ) (go : Header → ℕ → Reading) → go (o .header) (o .length) ≡ afterOpening qs vs (opening bs) go
   opened-yes qs vs go = rw (← e, yes)
 

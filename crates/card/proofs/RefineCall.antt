@@ -19,7 +19,7 @@ use Rattle.header.specs.declared.Refusal.{Refusal}
 use Rattle.header.specs.Refusals.{refusal, detailsOf}
 use Rattle.header.specs.Header.{planesOf}
 use Rattle.header.specs.Plan.{loads, firstOver, withPlane}
-use Rattle.header.specs.Opening.{right}
+use Rattle.header.specs.Opening.{wellFormed}
 use Rattle.order.specs.CardOrder.{isWhole, whole, wholePlan}
 use Rattle.figure.specs.Figure.{figureOf}
 use Rattle.header.proofs.Over.{over-none, none-over}
@@ -27,10 +27,11 @@ use Rattle.header.proofs.Rightness.{right-yes, layers-few, few-planes}
 use Rattle.order.proofs.Whole.{whole-most, counted-whole}
 use Rattle.packing.specs.Planes.{allHeld}
 use Rattle.loading.specs.InBytes.{fine, coefsWith}
-use Rattle.loading.specs.Calls.{Loading, told, there, adding}
+use Rattle.loading.specs.Workings.Calls.{Loading, asLoading, there, adding}
 use Rattle.loading.proofs.LayerPlanes.{whole-at}
 use Rattle.loading.proofs.Loads.{plus-long}
-use Rattle.card.specs.Reading.{Reading, goodLengths, finished}
+use Rattle.card.specs.Reading.{Reading, goodLengths}
+use Rattle.card.specs.Workings.{finished}
 use Rattle.card.specs.Reading as R
 use Rattle.card.specs.Refining.{refineLayer}
 use Rattle.card.proofs.ReadCall.{good-lengths, can-load, finished-is}
@@ -47,7 +48,7 @@ refinedAs h long bs plan k p qs =
     }
 
 -- ---- one more plane of a layer that has one
-module _ (h : Header) (r : right h ≡ true) (plan : Plan) (k : ℕ) (hk : k < layers (h .shape)) (more : loads plan k < planesOf h k) where
+module _ (h : Header) (r : wellFormed h ≡ true) (plan : Plan) (k : ℕ) (hk : k < layers (h .shape)) (more : loads plan k < planesOf h k) where
   layer-few : k < layersMost
   layer-few = omega (arith, layers-few (right-yes h r))
 
@@ -87,15 +88,15 @@ module _ (qs vs : List ℤ) (bs : List ℕ) (h : Header) (long : ℕ) (plan : Pl
   abbrev limit : ℕ
   limit = loads (wholePlan h (length bs - long)) k
 
-  pub refine-past : layers (h .shape) ≤ k → R.no qs vs (refusal 9 k 0) ≡ refineLayer qs vs bs h long plan k
+  pub refine-past : layers (h .shape) ≤ k → R.notRead qs vs (refusal 9 k 0) ≡ refineLayer qs vs bs h long plan k
   refine-past l = rw (le-ltb k (layers (h .shape)) l)
 
   module _ (hk : k < layers (h .shape)) where
-    pub refine-none : limit ≤ loads plan k → R.no qs vs (refusal 9 k 0) ≡ refineLayer qs vs bs h long plan k
+    pub refine-none : limit ≤ loads plan k → R.notRead qs vs (refusal 9 k 0) ≡ refineLayer qs vs bs h long plan k
     refine-none l = rw (lt-ltb k (layers (h .shape)) hk, le-ltb (loads plan k) limit l)
 
 -- a layer with a further whole plane: it is one of the header's, and in the bytes
-module _ (h : Header) (r : right h ≡ true) (long : ℕ) (bs : List ℕ) (plan : Plan) (k : ℕ) (here : long ≤ length bs)
+module _ (h : Header) (r : wellFormed h ≡ true) (long : ℕ) (bs : List ℕ) (plan : Plan) (k : ℕ) (here : long ≤ length bs)
     (hk : k < layers (h .shape)) (more : loads plan k < loads (wholePlan h (length bs - long)) k) where
   further : loads plan k < whole h (length bs - long) k
   further = omega (arith, whole-at h (length bs - long) k (omega (arith, layers-few (right-yes h r))))
@@ -132,7 +133,7 @@ module _ (h : Header) (r : right h ≡ true) (long : ℕ) (bs : List ℕ) (plan 
         (λ u. rw (can, next-there, low, further, t, u) (unfold finished in refl)))
         (λ t. rw (can, next-there, low, further, t) (unfold finished in refl))
 
-    pub added-refine : (refusal : Refusal) (q : List ℤ) (p : ℕ) (pl : Plan) → p ≡ at-next → told refusal q ≡ adding qs bs h long k p → pl ≡ withPlane plan k
+    pub added-refine : (refusal : Refusal) (q : List ℤ) (p : ℕ) (pl : Plan) → p ≡ at-next → asLoading refusal q ≡ adding qs bs h long k p → pl ≡ withPlane plan k
         → finished (detailsOf refusal) h pl q vs ≡ refineLayer qs vs bs h long plan k
     added-refine refusal q p pl e x y =
         ap₂ (λ (l : Loading) (p : Plan). finished (l .refused) h p (l .coefficients) vs) (x ∙ ap (adding qs bs h long k) e) y

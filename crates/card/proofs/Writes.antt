@@ -9,7 +9,7 @@ use lib.Dec.{ltb, leb}
 use lib.IntN.{ℤ, pos}
 use lib.ListN.{length, drop, List·getD-eq-default}
 use lib.Seq.{sets, sets-eq}
-use Rattle.text.specs.Text.{after, putting}
+use Rattle.text.specs.Workings.{after, putting}
 use Rattle.text.proofs.Fitting.{put-fits}
 use borrow.Author.Tests.{not-false, lt-ltb, le-ltb, le-leb, lt-leb}
 use Rattle.integers.proofs.Bools.{and-both, and-no-left, and-no-right, or-left, or-right}
@@ -25,9 +25,10 @@ use Rattle.sheet.specs.Limits.{levelsMost, stepMost}
 use Rattle.sheet.specs.Lists.{at}
 use Rattle.sheet.specs.Sheet.{sized, accepted, points}
 use Rattle.layers.specs.Layering.{layering, coefs}
-use Rattle.layers.specs.Loops.{Samples}
-use Rattle.layers.specs.Calls as C
-use Rattle.layers.specs.Calls.{full}
+use Rattle.layers.specs.Workings.Loops.{Samples}
+use Rattle.layers.specs.Samples as C
+use Rattle.layers.specs.Workings.Calls as W
+use Rattle.layers.specs.Samples.{full}
 use Rattle.layers.proofs.Answers.{samples-by, full-yes, full-no, right, after-scan}
 use Rattle.layers.proofs.Law.{length-coefs}
 use Rattle.layers.proofs.Range.{coefs-reach}
@@ -39,13 +40,13 @@ use Rattle.header.specs.Header.{placesMost}
 use Rattle.card.specs.declared.Written.{Written}
 use Rattle.header.proofs.TextLength.{card-fits}
 use Rattle.packing.specs.Planes.{headerFor, cardOf, allHeld}
-use Rattle.packing.specs.Calls.{cardFor}
+use Rattle.packing.specs.Workings.Calls.{cardFor}
 use Rattle.packing.proofs.All.{all-by}
 use Rattle.packing.proofs.BodyOrder.{body-length}
 use Rattle.packing.proofs.Cards.{header-right, card-length}
 use Rattle.packing.proofs.FlatPlanes.{zero-holds}
 use Rattle.header.proofs.Rightness.{few-planes}
-use Rattle.card.specs.Writing.{outputLeast, badSizes, Writing, afterScan, badSettings, goodLengths, writing, told}
+use Rattle.card.specs.Writing.{outputLeast, badSizes, Writing, afterScan, badSettings, roomToWrite, writing, asWriting}
 use Rattle.card.specs.Writing as Wr
 use Rattle.card.proofs.BadSizes.{bad-sizes}
 
@@ -70,7 +71,7 @@ card-most sh ok qs curve e step =
 sets-front : (d a : List ℕ) → length a ≤ length d → sets d 0 a ≡ a ++ drop (length a) d
 sets-front d a h = let z : 0 + length a ≡ length a = omega arith in sets-eq a d 0 (omega arith) ∙ ap (λ (n : ℕ). a ++ drop n d) z
 
--- "23 digits .. enough for every accepted sheet"
+-- 23 digits are enough for every sheet that is accepted
 pub coefs-hold : {sh : Shape} {e : ℕ} {xs : List ℤ} → Samples sh e xs → (curve : Curve) (p : ℕ) → p < points sh → holds placesMost (at (coefs (layering sh curve) e xs) p) ≡ true
 coefs-hold s curve p h =
     let reach = coefs-reach s curve p h in
@@ -78,15 +79,15 @@ coefs-hold s curve p h =
 
 module _ (xs : List ℤ) (sh : Shape) (curve : Curve) (e : ℕ) (qs vs : List ℤ) (out : List ℕ) where
   -- a refusal told
-  told-no : (w : Written) (r : Refusal) → w .refusal ≡ r → w .length ≡ 0 → told w qs vs out ≡ Wr.no xs sh curve e qs vs out (detailsOf r)
+  told-no : (w : Written) (r : Refusal) → w .refusal ≡ r → w .length ≡ 0 → asWriting w qs vs out ≡ Wr.notWritten xs sh curve e qs vs out (detailsOf r)
   told-no w r a b = made-same (detailsOf (w .refusal)) (detailsOf r) (w .length) 0 qs qs vs vs out out (ap detailsOf a) b refl refl refl
 
-  pub bad-size : badSizes (sh .rows) (sh .cols) ≡ true → (w : Written) → w .refusal ≡ R.BadSize → w .length ≡ 0 → told w qs vs out ≡ writing xs sh curve e qs vs out
+  pub bad-size : badSizes (sh .rows) (sh .cols) ≡ true → (w : Written) → w .refusal ≡ R.BadSize → w .length ≡ 0 → asWriting w qs vs out ≡ writing xs sh curve e qs vs out
   unfolding writing
   bad-size y w a b = rw y (told-no w R.BadSize a b)
 
   module _ (n : badSizes (sh .rows) (sh .cols) ≡ false) where
-    pub bad-settings : badSettings xs sh curve e qs vs out ≡ true → (w : Written) → w .refusal ≡ R.BadSettings → w .length ≡ 0 → told w qs vs out ≡ writing xs sh curve e qs vs out
+    pub bad-settings : badSettings xs sh curve e qs vs out ≡ true → (w : Written) → w .refusal ≡ R.BadSettings → w .length ≡ 0 → asWriting w qs vs out ≡ writing xs sh curve e qs vs out
     unfolding writing
     bad-settings y w a b = rw (n, y) (told-no w R.BadSettings a b)
 
@@ -100,7 +101,7 @@ module _ (xs : List ℤ) (sh : Shape) (curve : Curve) (e : ℕ) (qs vs : List �
       pub good-settings : badSettings xs sh curve e qs vs out ≡ false
       good-settings = rw (le-ltb levelsMost (sh .levels) l, le-ltb stepMost e s)
 
-      pub bad-lengths : goodLengths xs sh curve e qs vs out ≡ false → (w : Written) → w .refusal ≡ R.BadLengths → w .length ≡ 0 → told w qs vs out ≡ writing xs sh curve e qs vs out
+      pub bad-lengths : roomToWrite xs sh curve e qs vs out ≡ false → (w : Written) → w .refusal ≡ R.BadLengths → w .length ≡ 0 → asWriting w qs vs out ≡ writing xs sh curve e qs vs out
       unfolding writing
       bad-lengths y w a b = rw (n, good-settings, y) (told-no w R.BadLengths a b)
 
@@ -113,16 +114,16 @@ module _ (xs : List ℤ) (sh : Shape) (curve : Curve) (e : ℕ) (qs vs : List �
       abbrev back : Bool
       back = full sh vs && leb outputLeast (length out)
 
-      pub short-samples : (length xs ≡ pts → ⊥) → goodLengths xs sh curve e qs vs out ≡ false
+      pub short-samples : (length xs ≡ pts → ⊥) → roomToWrite xs sh curve e qs vs out ≡ false
       short-samples h = and-no-left front back (and-no-left (full sh xs) (full sh qs) (full-no sh xs h))
 
-      pub short-coefficients : (length qs ≡ pts → ⊥) → goodLengths xs sh curve e qs vs out ≡ false
+      pub short-coefficients : (length qs ≡ pts → ⊥) → roomToWrite xs sh curve e qs vs out ≡ false
       short-coefficients h = and-no-left front back (and-no-right (full sh xs) (full sh qs) (full-no sh qs h))
 
-      pub short-values : (length vs ≡ pts → ⊥) → goodLengths xs sh curve e qs vs out ≡ false
+      pub short-values : (length vs ≡ pts → ⊥) → roomToWrite xs sh curve e qs vs out ≡ false
       short-values h = and-no-right front back (and-no-left (full sh vs) (leb outputLeast (length out)) (full-no sh vs h))
 
-      pub short-output : length out < outputLeast → goodLengths xs sh curve e qs vs out ≡ false
+      pub short-output : length out < outputLeast → roomToWrite xs sh curve e qs vs out ≡ false
       short-output h = and-no-right front back (and-no-right (full sh vs) (leb outputLeast (length out)) (lt-leb _ _ h))
 
       -- a sheet by itself has then passed every test of its shape
@@ -135,7 +136,7 @@ module _ (xs : List ℤ) (sh : Shape) (curve : Curve) (e : ℕ) (qs vs : List �
 
       -- the shape is accepted, and every length is right
       module _ (ok : accepted sh ≡ true) (hx : length xs ≡ pts) (hq : length qs ≡ pts) (hv : length vs ≡ pts) (ho : outputLeast ≤ length out) where
-        pub good-lengths : goodLengths xs sh curve e qs vs out ≡ true
+        pub good-lengths : roomToWrite xs sh curve e qs vs out ≡ true
         good-lengths =
             and-both front back
             (and-both (full sh xs) (full sh qs) (full-yes sh xs hx) (full-yes sh qs hq))
@@ -145,28 +146,28 @@ module _ (xs : List ℤ) (sh : Shape) (curve : Curve) (e : ℕ) (qs vs : List �
         unfolding writing
         writes = rw (n, good-settings, good-lengths)
 
-        is-settled : C.settled sh e ≡ true
-        is-settled = unfold C.settled in (and-both (accepted sh) (leb e stepMost) ok (le-leb e stepMost s))
+        is-settled : W.settled sh e ≡ true
+        is-settled = unfold W.settled in (and-both (accepted sh) (leb e stepMost) ok (le-leb e stepMost s))
 
-        abbrev Q : C.Quantizing
-        Q = C.quantizing sh curve e xs qs vs
+        abbrev Q : W.Quantizing
+        Q = W.quantizing sh curve e xs qs vs
 
-        quantizes : Q ≡ C.afterScan sh curve e xs qs vs (C.scanned (sh .cols) xs)
+        quantizes : Q ≡ W.afterScan sh curve e xs qs vs (C.scanned (sh .cols) xs)
         quantizes = after-scan sh curve e xs qs vs (right sh curve e xs qs vs is-settled hx hq hv) (C.scanned (sh .cols) xs) refl
 
-        answered : (a : Quantized) → a ≡ Q .answer → a ≡ C.afterScan sh curve e xs qs vs (C.scanned (sh .cols) xs) .answer
-        answered a x = x ∙ ap (λ (z : C.Quantizing). z .answer) quantizes
+        answered : (a : Quantized) → a ≡ Q .answer → a ≡ W.afterScan sh curve e xs qs vs (C.scanned (sh .cols) xs) .answer
+        answered a x = x ∙ ap (λ (z : W.Quantizing). z .answer) quantizes
 
-        left-coefs : (q : List ℤ) → q ≡ Q .coefficients → q ≡ C.afterScan sh curve e xs qs vs (C.scanned (sh .cols) xs) .coefficients
-        left-coefs q x = x ∙ ap (λ (z : C.Quantizing). z .coefficients) quantizes
+        left-coefs : (q : List ℤ) → q ≡ Q .coefficients → q ≡ W.afterScan sh curve e xs qs vs (C.scanned (sh .cols) xs) .coefficients
+        left-coefs q x = x ∙ ap (λ (z : W.Quantizing). z .coefficients) quantizes
 
-        left-values : (v : List ℤ) → v ≡ Q .values → v ≡ C.afterScan sh curve e xs qs vs (C.scanned (sh .cols) xs) .values
-        left-values v x = x ∙ ap (λ (z : C.Quantizing). z .values) quantizes
+        left-values : (v : List ℤ) → v ≡ Q .values → v ≡ W.afterScan sh curve e xs qs vs (C.scanned (sh .cols) xs) .values
+        left-values v x = x ∙ ap (λ (z : W.Quantizing). z .values) quantizes
 
         -- it is not refused
         pub not-refused : Refused ≡ Q .answer → ⊥
         not-refused x = go (C.scanned (sh .cols) xs) (answered Refused x) where
-          go : (s : Scan) → Refused ≡ C.afterScan sh curve e xs qs vs s .answer → ⊥
+          go : (s : Scan) → Refused ≡ W.afterScan sh curve e xs qs vs s .answer → ⊥
           go Clear y = let z : _≡_ {A = ℕ} 0 1 = cc in omega arith
           go (OutAt r c) y = let z : _≡_ {A = ℕ} 0 1 = cc in omega arith
 
@@ -177,10 +178,10 @@ module _ (xs : List ℤ) (sh : Shape) (curve : Curve) (e : ℕ) (qs vs : List �
         outDetails (OutOfRange r c) = refusal 4 r c
 
         pub out-at : (row col : ℕ) (q v : List ℤ) (w : Written) → OutOfRange row col ≡ Q .answer → q ≡ Q .coefficients → v ≡ Q .values → w .refusal ≡ R.BadSample row col → w .length ≡ 0
-            → told w q v out ≡ writing xs sh curve e qs vs out
+            → asWriting w q v out ≡ writing xs sh curve e qs vs out
         out-at row col q v w x y z a b = go (C.scanned (sh .cols) xs) (answered _ x) (left-coefs q y) (left-values v z) ∙ sym writes where
-          go : (s : Scan) → OutOfRange row col ≡ C.afterScan sh curve e xs qs vs s .answer → q ≡ C.afterScan sh curve e xs qs vs s .coefficients → v ≡ C.afterScan sh curve e xs qs vs s .values
-              → told w q v out ≡ afterScan xs sh curve e qs vs out s
+          go : (s : Scan) → OutOfRange row col ≡ W.afterScan sh curve e xs qs vs s .answer → q ≡ W.afterScan sh curve e xs qs vs s .coefficients → v ≡ W.afterScan sh curve e xs qs vs s .values
+              → asWriting w q v out ≡ afterScan xs sh curve e qs vs out s
           go Clear f g h = absurd (let z : _≡_ {A = ℕ} 0 1 = cc in omega arith)
           go (OutAt r c) f g h =
               made-same (detailsOf (w .refusal)) (refusal 4 r c) (w .length) 0 q qs v vs out out (ap detailsOf a ∙ ap outDetails f) b g h refl
@@ -188,7 +189,7 @@ module _ (xs : List ℤ) (sh : Shape) (curve : Curve) (e : ℕ) (qs vs : List �
         -- all are in range
         coefs-held : (q : List ℤ) → Done ≡ Q .answer → q ≡ Q .coefficients → (length q ≡ points sh) × ((p : ℕ) → holds placesMost (at q p) ≡ true)
         coefs-held q x y = go (C.scanned (sh .cols) xs) refl (answered _ x) (left-coefs q y) where
-          go : (s : Scan) → C.scanned (sh .cols) xs ≡ s → Done ≡ C.afterScan sh curve e xs qs vs s .answer → q ≡ C.afterScan sh curve e xs qs vs s .coefficients
+          go : (s : Scan) → C.scanned (sh .cols) xs ≡ s → Done ≡ W.afterScan sh curve e xs qs vs s .answer → q ≡ W.afterScan sh curve e xs qs vs s .coefficients
               → (length q ≡ points sh) × ((p : ℕ) → holds placesMost (at q p) ≡ true)
           go (OutAt r c) k f g = absurd (let z : _≡_ {A = ℕ} 0 1 = cc in omega arith)
           go Clear k f g = rw g (
@@ -219,13 +220,13 @@ module _ (xs : List ℤ) (sh : Shape) (curve : Curve) (e : ℕ) (qs vs : List �
             (omega (arith, a, ap (after out 0) card, fits .0), b ∙ ap (putting out 0) card ∙ fits .1 ∙ sets-front out (cardOf sh curve e q) short)
 
         pub card-told : (q v : List ℤ) (r : ℕ) (o : List ℕ) → Done ≡ Q .answer → q ≡ Q .coefficients → v ≡ Q .values → r ≡ after out 0 (cardFor sh curve e q)
-            → o ≡ putting out 0 (cardFor sh curve e q) → told (record { refusal = R.Accepted; length = r }) q v o ≡ writing xs sh curve e qs vs out
+            → o ≡ putting out 0 (cardFor sh curve e q) → asWriting (record { refusal = R.Accepted; length = r }) q v o ≡ writing xs sh curve e qs vs out
         card-told q v r o x y z a b = go (C.scanned (sh .cols) xs) (answered _ x) (left-coefs q y) (left-values v z) ∙ sym writes where
           put : (r ≡ length (cardOf sh curve e q)) × (o ≡ cardOf sh curve e q ++ drop (length (cardOf sh curve e q)) out)
           put = card-put q x y r o a b
 
-          go : (s : Scan) → Done ≡ C.afterScan sh curve e xs qs vs s .answer → q ≡ C.afterScan sh curve e xs qs vs s .coefficients → v ≡ C.afterScan sh curve e xs qs vs s .values
-              → told (record { refusal = R.Accepted; length = r }) q v o ≡ afterScan xs sh curve e qs vs out s
+          go : (s : Scan) → Done ≡ W.afterScan sh curve e xs qs vs s .answer → q ≡ W.afterScan sh curve e xs qs vs s .coefficients → v ≡ W.afterScan sh curve e xs qs vs s .values
+              → asWriting (record { refusal = R.Accepted; length = r }) q v o ≡ afterScan xs sh curve e qs vs out s
           go (OutAt r c) f g h = absurd (let z : _≡_ {A = ℕ} 0 1 = cc in omega arith)
           go Clear f g h =
               made-same (refusal 0 0 0) (refusal 0 0 0) r _ q _ v _ o _ refl (put .0 ∙ ap (λ (x : List ℤ). length (cardOf sh curve e x)) g) g h

@@ -1,4 +1,4 @@
--- Reading (document 01, "Reading and refining" and "When the box says no").
+-- Reading and showing (docs/CARD.md, "Plans, reading, refining"; "Refusals", reading). Reading is what one does to a card; the numbers that a vehicle measured are samples.
 use mathlib.Core.Bool.{Bool, cond, _&&_}
 use mathlib.Core.List.{List}
 use Prim.Native.Nat.{ℕ}
@@ -6,18 +6,17 @@ use lib.Dec.{ltb, eqb}
 use lib.IntN.{ℤ}
 use Rattle.sheet.specs.Limits.{layersMost}
 use Rattle.layers.specs.Layering.{layering, rebuilt}
-use Rattle.layers.specs.Calls.{full, rebuilding}
+use Rattle.layers.specs.Samples.{full}
 use Rattle.header.specs.declared.Header.{Header}
 use Rattle.header.specs.declared.Plan.{Plan}
 use Rattle.header.specs.declared.Details.{Details}
-use Rattle.header.specs.declared.Refusal.{Refusal}
 use Rattle.header.specs.Refusals.{refusal, detailsOf}
 use Rattle.header.specs.Plan.{noPlan, loads, firstOver}
 use Rattle.header.specs.Opening.{Opening, opening}
-use Rattle.order.specs.CardOrder.{wholeOf}
-use Rattle.figure.specs.Figure.{figureOf, boundOf}
+use Rattle.order.specs.CardOrder.{slotLayer, slots, wholeOf}
+use Rattle.figure.specs.Figure.{figureOf}
 use Rattle.card.specs.declared.Reached.{Reached}
-use Rattle.loading.specs.InBytes.{slots, slotLayer, firstBad, coefsRead}
+use Rattle.loading.specs.InBytes.{firstBad, coefsRead}
 
 -- what reading answers and the caller's slices afterwards. Beside a refusal the plan and the figure are 0 and nothing has changed
 pub record Reading : Type 0 where
@@ -27,23 +26,23 @@ pub record Reading : Type 0 where
   pub coefficients : List ℤ
   pub values : List ℤ
 
--- "9, a layer asks more planes than are whole, or a place past the last layer is not 0 (detail: first such place)"
+-- refusal 9: a layer is asked for more planes than are whole, or a number past the last layer is not 0 (the first such place)
 abbrev pub planRefusal : ℕ → Details
 planRefusal over = cond (ltb over layersMost) (refusal 9 over 0) (refusal 0 0 0)
 
 module _ (qs vs : List ℤ) where
-  abbrev pub no : Details → Reading
-  no d = record { refused = d; plan = noPlan; figure = 0; coefficients = qs; values = vs }
+  abbrev pub notRead : Details → Reading
+  notRead d = record { refused = d; plan = noPlan; figure = 0; coefficients = qs; values = vs }
 
   -- what is done unless it is refused
   abbrev pub unless : Details → Reading → Reading
-  unless d go = cond (eqb (d .number) 0) go (no d)
+  unless d go = cond (eqb (d .number) 0) go (notRead d)
 
-  -- the plan is known to load whole planes alone
+  -- refusal 8: a plane of the plan that cannot be (the layer of the first one in card order); otherwise what is read. All planes of the plan are whole
   abbrev pub readWhole : Header → ℕ → List ℕ → Plan → ℕ → Reading
   readWhole h long bs plan bad =
-      cond (ltb bad (slots h long bs (loads plan)))
-      (no (refusal 8 (slotLayer h long bs (loads plan) bad) 0))
+      cond (ltb bad (slots h))
+      (notRead (refusal 8 (slotLayer h bad) 0))
       (record {
         refused = refusal 0 0 0;
         plan = plan;
@@ -55,7 +54,7 @@ module _ (qs vs : List ℤ) where
   abbrev pub goodLengths : Header → Bool
   goodLengths h = full (h .shape) qs && full (h .shape) vs
 
-  -- the first refusal before a card is read or a reading refined: "3, lengths.", then 9; 0 where neither applies
+  -- the first refusal before a card is read or a reading refined: 3 for the lengths, then 9; 0 where neither applies
   unfoldable pub firstRefusal : Header → Plan → Plan → Details
   firstRefusal h whole plan = cond (goodLengths h) (planRefusal (firstOver (loads whole) (loads plan))) (refusal 3 0 0)
 
@@ -71,26 +70,10 @@ module _ (qs vs : List ℤ) where
   unfoldable pub reading : List ℕ → Plan → Reading
   reading bs plan = afterOpening (opening bs) (λ h long. readOpened bs h long plan)
 
-  -- "Showing a card is reading it with all its whole planes"
+  -- showing: reading with all planes that are whole
   unfoldable pub showing : List ℕ → Reading
   showing bs = afterOpening (opening bs) (λ h long. readOpened bs h long (wholeOf bs h long))
 
--- the code's answer where nothing is reached
-abbrev pub notReached : Refusal → Reached
-notReached refusal = record { refusal = refusal; plan = noPlan; figure = 0 }
-
 -- the code's answer in these terms
-abbrev pub told : Reached → List ℤ → List ℤ → Reading
-told r qs vs = record { refused = detailsOf (r .refusal); plan = r .plan; figure = r .figure; coefficients = qs; values = vs }
-
--- what follows the planes as the code does it: values and figure, unless the planes were refused
-unfoldable pub finished : Details → Header → Plan → List ℤ → List ℤ → Reading
-finished d h plan qs vs =
-    unless qs vs d
-    (record {
-      refused = refusal 0 0 0;
-      plan = plan;
-      figure = boundOf h plan;
-      coefficients = qs;
-      values = rebuilding (h .shape) (h .curve) (h .step) qs vs;
-    })
+abbrev pub asReading : Reached → List ℤ → List ℤ → Reading
+asReading r qs vs = record { refused = detailsOf (r .refusal); plan = r .plan; figure = r .figure; coefficients = qs; values = vs }

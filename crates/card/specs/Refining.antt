@@ -1,4 +1,4 @@
--- Refining (document 01, "Reading and refining" and "When the box says no").
+-- Refining (docs/CARD.md, "Plans, reading, refining"; "Refusals", refining).
 use mathlib.Core.Bool.{cond, _&&_}
 use mathlib.Core.List.{List}
 use Prim.Native.Nat.{ℕ, suc, _-_}
@@ -20,7 +20,7 @@ use Rattle.card.specs.Reading.{Reading}
 use Rattle.card.specs.Reading as R
 
 module _ (qs vs : List ℤ) where
-  -- "8 for the new plane (detail: its layer)"
+  -- refusal 8: the new plane cannot be (its layer)
   abbrev pub refinePlane : Header → ℕ → List ℕ → Plan → ℕ → ℕ → Reading
   refinePlane h long bs plan k p =
       cond (fine h long bs k p)
@@ -31,19 +31,19 @@ module _ (qs vs : List ℤ) where
         coefficients = coefsWith h long bs k p qs;
         values = rebuilt (layering (h .shape) (h .curve)) (h .step) (coefsWith h long bs k p qs);
       })
-      (R.no qs vs (refusal 8 k 0))
+      (R.notRead qs vs (refusal 8 k 0))
 
-  -- "9 (.. then the layer asked for, which is the detail: past the last layer, or with no further plane, or its next plane not whole)": whole
-  -- planes are at most the header's, so one test serves the last two; then "11, a coefficient outside the 23-digit range"
+  -- refusal 9 of the layer asked for: there is none, or it has no further plane, or its next plane is not whole (whole planes are at most the header's,
+  -- so one test serves the last two); then 11, a coefficient outside the range of 23 digits
   abbrev pub refineLayer : List ℕ → Header → ℕ → Plan → ℕ → Reading
   refineLayer bs h long plan k =
       cond (ltb k (layers (h .shape)) && ltb (loads plan k) (loads (wholeOf bs h long) k))
       (cond (allHeld qs)
       (refinePlane h long bs plan k (planesOf h k - suc (loads plan k)))
-      (R.no qs vs (refusal 11 0 0)))
-      (R.no qs vs (refusal 9 k 0))
+      (R.notRead qs vs (refusal 11 0 0)))
+      (R.notRead qs vs (refusal 9 k 0))
 
-  -- "3; 9 (the plan as above, ..)": checked as a reading is
+  -- 3, and 9 of the plan: as a reading is checked
   unfoldable pub refineOpened : List ℕ → Header → ℕ → Plan → ℕ → Reading
   refineOpened bs h long plan k = R.unless qs vs (R.firstRefusal qs vs h (wholeOf bs h long) plan) (refineLayer bs h long plan k)
 

@@ -28,7 +28,7 @@ fn first_refusal(
     coefficients: &[i32],
     values: &[i64],
 ) -> Refusal
-    requires { ⌜ O.right header ≡ true ⌝ }
+    requires { ⌜ O.wellFormed header ≡ true ⌝ }
     ensures { λ r. ⌜ detailsOf r ≡ R.firstRefusal (now (coefficients .entry)) (now (values .entry)) header whole plan ⌝ }
 {
     if !good_lengths(header, coefficients, values) {
@@ -54,9 +54,9 @@ fn refine_layer(
     coefficients: &mut [i32],
     values: &mut [i64],
 ) -> Reached
-    requires { ⌜ (O.right header ≡ true) × (at ≤ length (now bytes)) × (whole ≡ wholeOf (now bytes) header at) ⌝ }
+    requires { ⌜ (O.wellFormed header ≡ true) × (at ≤ length (now bytes)) × (whole ≡ wholeOf (now bytes) header at) ⌝ }
     requires { ⌜ (R.goodLengths (now coefficients) (now values) header ≡ true) × (N.firstOver (Hd.planesOf header) (N.loads plan) ≡ layersMost) ⌝ }
-    ensures { λ r. ⌜ R.told r (now (coefficients .exit)) (now (values .exit)) ≡ F.refineLayer (now (coefficients .entry)) (now (values .entry)) (now (bytes .entry)) header at plan layer ⌝ }
+    ensures { λ r. ⌜ R.asReading r (now (coefficients .exit)) (now (values .exit)) ≡ F.refineLayer (now (coefficients .entry)) (now (values .entry)) (now (bytes .entry)) header at plan layer ⌝ }
 {
     let shape = header.shape;
     let limit = whole.planes;
@@ -84,8 +84,8 @@ fn refine_opened(
     coefficients: &mut [i32],
     values: &mut [i64],
 ) -> Reached
-    requires { ⌜ (O.right header ≡ true) × (at ≤ length (now bytes)) ⌝ }
-    ensures { λ r. ⌜ R.told r (now (coefficients .exit)) (now (values .exit)) ≡ F.refineOpened (now (coefficients .entry)) (now (values .entry)) (now (bytes .entry)) header at plan layer ⌝ }
+    requires { ⌜ (O.wellFormed header ≡ true) × (at ≤ length (now bytes)) ⌝ }
+    ensures { λ r. ⌜ R.asReading r (now (coefficients .exit)) (now (values .exit)) ≡ F.refineOpened (now (coefficients .entry)) (now (values .entry)) (now (bytes .entry)) header at plan layer ⌝ }
 {
     let whole = order::whole_planes(header, bytes.len() - at);
     let refusal = first_refusal(header, whole, plan, coefficients, values);
@@ -112,7 +112,7 @@ pub fn refine(
     coefficients: &mut [i32],
     values: &mut [i64],
 ) -> Reached
-    ensures { λ r. ⌜ R.told r (now (coefficients .exit)) (now (values .exit)) ≡ F.refining (now (coefficients .entry)) (now (values .entry)) (now (bytes .entry)) plan layer ⌝ }
+    ensures { λ r. ⌜ R.asReading r (now (coefficients .exit)) (now (values .exit)) ≡ F.refining (now (coefficients .entry)) (now (values .entry)) (now (bytes .entry)) plan layer ⌝ }
 {
     let opened = header::open(bytes);
     let refusal = opened.refusal;

@@ -9,7 +9,7 @@ use sheet::Curve;
 use sheet::MOST_LEVELS;
 use sheet::MOST_STEP;
 
-// "output under 32,768 bytes"
+// The room that writing asks for.
 const LEAST_OUTPUT: usize = 32768;
 
 fn refused(refusal: Refusal) -> Written
@@ -30,7 +30,7 @@ pub fn write(
     values: &mut [i64],
     output: &mut [u8],
 ) -> Written
-    ensures { λ r. ⌜ Wr.told r (now (coefficients .exit)) (now (values .exit)) (now (output .exit)) ≡ Wr.writing (now (samples .entry)) (S.sheetOf rows cols levels) curve step (now (coefficients .entry)) (now (values .entry)) (now (output .entry)) ⌝ }
+    ensures { λ r. ⌜ Wr.asWriting r (now (coefficients .exit)) (now (values .exit)) (now (output .exit)) ≡ Wr.writing (now (samples .entry)) (S.sheetOf rows cols levels) curve step (now (coefficients .entry)) (now (values .entry)) (now (output .entry)) ⌝ }
 {
     if !sheet::sized(1, rows, cols) {
         return refused(Refusal::BadSize);

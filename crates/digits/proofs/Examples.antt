@@ -1,4 +1,4 @@
--- The examples of document 01, computed. Lists are lowest digit first: the digits 110 of 2 are 0 ∷ 1 ∷ 1 ∷ [] here.
+-- The examples of docs/CARD.md, computed. Lists are lowest digit first: the digits 110 of 2 are 0 ∷ 1 ∷ 1 ∷ [] here.
 use mathlib.Core.Path.{_≡_, refl}
 use mathlib.Core.List.{List, [], _∷_}
 use Prim.Native.Nat.{ℕ}

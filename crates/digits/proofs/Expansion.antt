@@ -12,7 +12,8 @@ use Rattle.integers.proofs.Diff.{#, lit, _⊖_, _⊡_}
 use Rattle.integers.proofs.Order.{eq-by}
 use Rattle.integers.proofs.Near.{parts-abs}
 use Rattle.integers.proofs.Floor.{floor-at}
-use Rattle.digits.specs.Digits.{value, Binary, evens, odds, lowest, higher, digitAt, digitsOf, loss, truncate}
+use Rattle.digits.specs.Digits.{value, evens, odds, lowest, higher, digitAt, digitsOf, loss}
+use Rattle.digits.proofs.DigitLists.{Binary, truncate}
 use Rattle.digits.proofs.Range.{Holds, holds-cons, holds-uncons}
 use Rattle.digits.proofs.Value.{value-inj}
 use Rattle.digits.proofs.Losses.{drop-near}

@@ -7,7 +7,8 @@ use lib.IntN.{ℤ, pos, _+ℤ_, _*ℤ_}
 use lib.ListN.{getD}
 use Rattle.integers.proofs.Diff.{#, lit, via, _⊞_, _⊖_, ⊟, _⊡_, _⊗_}
 use Rattle.integers.proofs.Order.{eq-by}
-use Rattle.digits.specs.Digits.{value, weight, bitsOf, groupsFrom, groupValues, entry, byGroups}
+use Rattle.digits.specs.Digits.{value, weight}
+use Rattle.digits.specs.Groups.{bitsOf, groupsFrom, groupValues, entry, byGroups}
 use Rattle.digits.proofs.Words.{bits-more}
 
 -- ---- the table

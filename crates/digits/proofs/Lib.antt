@@ -10,3 +10,4 @@ pub mod Groups
 pub mod Firsts
 pub mod Fewest
 pub mod Examples
+pub mod DigitLists

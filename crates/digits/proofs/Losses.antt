@@ -15,7 +15,9 @@ use Rattle.integers.specs.Distance.{Near}
 use Rattle.integers.proofs.Diff.{#, lit, via, _⊞_, _⊖_, ⊟, _⊡_, _⊗_}
 use Rattle.integers.proofs.Order.{eq-by}
 use Rattle.integers.proofs.Near.{near-by, abs-by, abs-at}
-use Rattle.digits.specs.Digits.{value, Binary, weight, evens, odds, truncate, loss, digitsMost}
+use Rattle.digits.specs.Digits.{value, weight, evens, odds, loss}
+use Rattle.digits.proofs.DigitLists.{Binary, truncate}
+use Rattle.digits.specs.Workings.{digitsMost}
 use Rattle.digits.proofs.Range.{Holds, range}
 use Rattle.digits.proofs.Value.{binary-take}
 use Rattle.digits.proofs.Places.{value-split, truncate-value, truncate-past}

@@ -8,7 +8,8 @@ use lib.IntN.{ℤ, pos, natAbs, _+ℤ_, _-ℤ_}
 use lib.ListN.{length, getD}
 use Rattle.integers.proofs.Diff.{#, lit, via, _⊞_, _⊖_, _⊡_}
 use Rattle.integers.proofs.Order.{le-by, eq-by, nonneg-is}
-use Rattle.digits.specs.Digits.{value, Binary, evens, odds, digitAt, digitsOf}
+use Rattle.digits.specs.Digits.{value, evens, odds, digitAt, digitsOf}
+use Rattle.digits.proofs.DigitLists.{Binary}
 use Rattle.digits.proofs.Range.{Holds, weights}
 use Rattle.digits.proofs.Expansion.{digits-unique, digits-at}
 

@@ -15,7 +15,8 @@ use Rattle.integers.specs.Distance.{up, down}
 use Rattle.integers.proofs.Diff.{#, lit, _⊖_, ⊟, _⊡_}
 use Rattle.integers.proofs.Order.{le-by}
 use Rattle.integers.proofs.Machine.{le-test, sfits-at}
-use Rattle.digits.specs.Digits.{value, Binary, evens, odds, holds}
+use Rattle.digits.specs.Digits.{value, evens, odds, holds}
+use Rattle.digits.proofs.DigitLists.{Binary}
 use Rattle.integers.proofs.Bools.{and-left, and-right, and-both, is-true}
 
 -- ---- the weights of the even and of the odd places

@@ -18,14 +18,15 @@ use Rattle.header.specs.declared.Header.{Header}
 use Rattle.header.specs.Header.{ascii}
 use Rattle.header.specs.Plan.{loads}
 use Rattle.header.specs.Opening.{opening}
-use Rattle.order.specs.CardOrder.{wholeOf}
-use Rattle.loading.specs.InBytes.{firstBad, slots, coefsRead}
+use Rattle.order.specs.CardOrder.{slots, wholeOf}
+use Rattle.loading.specs.InBytes.{firstBad, coefsRead}
 use Rattle.card.specs.Reading.{showing, readOpened, firstRefusal}
 use Rattle.card.proofs.ReadCall.{good-lengths, checked-passes}
 use Rattle.display.specs.declared.Shown.{Shown}
-use Rattle.display.specs.Shown.{loadedText, rowsText, textOf, room, seen, shownOf, valuesOf, shownText, valuePiece, sheetLines, pieceAt, pieces, inOrder}
+use Rattle.display.specs.Shown.{loadedText, rowsText, textOf, room, seen, shownOf, valuesOf, shownText}
+use Rattle.display.proofs.Order.{inOrder, order-split, order-same}
+use Rattle.display.specs.Workings.{valuePiece, sheetLines, pieceAt, pieces}
 use Rattle.display.proofs.OpenedSize.{opened-sheet}
-use Rattle.display.proofs.Order.{order-split, order-same}
 use Rattle.display.proofs.Rows.{rows-pieces}
 
 -- ---- the pieces of any answer
@@ -62,7 +63,7 @@ module _ (qs vs : List ℤ) (bs : List ℕ) where
       let plan = loads whole in
       by (eqb (firstRefusal qs vs h whole whole .number) 0)
       (λ y.
-      by (ltb (firstBad h long bs plan) (slots h long bs plan))
+      by (ltb (firstBad h long bs plan) (slots h))
       (λ b. rw (y, b))
       (λ b.
       let full = good-lengths qs vs h (checked-passes qs vs h whole whole (eqb-true _ _ y) .0) in

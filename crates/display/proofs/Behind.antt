@@ -7,7 +7,7 @@ use lib.ListN.{length, length-append}
 use Rattle.text.proofs.Padding.{padded-room, padded-more}
 use Rattle.text.proofs.Stores.{sets-sets}
 use Rattle.display.specs.declared.Piece.{Piece}
-use Rattle.display.specs.Shown.{pieceMost, pieceOf, extended}
+use Rattle.display.specs.Workings.{pieceMost, pieceOf, extended}
 
 abbrev pub piece : List ℕ → ℕ → Piece
 piece bytes length = record { bytes = bytes; length = length }

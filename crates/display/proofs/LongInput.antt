@@ -17,29 +17,30 @@ use Rattle.sheet.proofs.Accepting.{accepted-by, accepted-yes, layers-few}
 use Rattle.text.specs.declared.Line.{Line}
 use Rattle.text.specs.declared.Line.the-variants as L
 use Rattle.text.specs.Text.{padded}
-use Rattle.text.specs.Line.{newline, before, starts, hasEnd, lineAt}
+use Rattle.text.specs.Line.{newline, indexOf, starts, hasEnd, lineAt}
 use Rattle.text.specs.Joined.{numbersIn}
 use Rattle.text.proofs.Digits.{length-le}
 use Rattle.text.proofs.Joins.{joined-length}
 use Rattle.text.proofs.Lines.{Written, written}
 use Rattle.header.specs.declared.Header.{Header}
 use Rattle.header.specs.Refusals.{refusal}
-use Rattle.header.specs.Header.{asciiFrom, ascii, cellBytes, cellsMost, cellsOf}
-use Rattle.header.specs.Opening.{Opening, no, taking, curveLine, curveOf, limits, counted, takingPlanes, openingCells, openingPlanes, openingStep, openingCurve, openingLevels, openingCols, opening}
+use Rattle.header.specs.Header.{asciiFrom, ascii, cellBytes, cellsOf}
+use Rattle.header.specs.Workings.{cellsMost}
+use Rattle.header.specs.Opening.{Opening, notOpened, taking, curveLine, curveOf, limits, counted, takingPlanes, openingCells, openingPlanes, openingStep, openingCurve, openingLevels, openingCols, opening}
 use Rattle.header.proofs.HeaderLines.{headed}
 use Rattle.header.proofs.Counts.{Counted, counts-read}
 use Rattle.header.proofs.Opens.{padded-in}
 use Rattle.header.proofs.Rightness.{most-le}
 use Rattle.header.proofs.Total.{cells-most}
 use Rattle.header.proofs.Turns.{PlanesLine}
-use Rattle.display.specs.Shown.{bufferBytes, longNumber}
+use Rattle.display.specs.Workings.{bufferBytes, longNumber}
 use Rattle.display.proofs.LongLines.{taken-long, prolonged, line-long, line-short, curve-long, curve-short}
 
 -- ---- what the first bytes answer, and what all of it answers
 abbrev Long : Bool → Opening → Opening → Type 0
 Long ends o all = all .refused .number ≡ longNumber (o .refused .number) ends
 
-cut-long : (ends : Bool) (n : ℕ) (go : ℕ → ℕ → Opening) → Long ends (no (refusal 5 0 0)) (taking n (prolonged ends L.Short) go)
+cut-long : (ends : Bool) (n : ℕ) (go : ℕ → ℕ → Opening) → Long ends (notOpened (refusal 5 0 0)) (taking n (prolonged ends L.Short) go)
 cut-long true n go = refl
 cut-long false n go = refl
 
@@ -66,45 +67,45 @@ module _ (sh : Shape) (few : layers sh ≤ layersMost) where
   counts-in line = numbersIn (limits sh) (drop (length (ascii "planes=")) line)
 
   abbrev planes-line : (List ℕ → ℕ → Opening) → List ℕ → ℕ → Opening
-  planes-line go line b = cond (starts (ascii "planes=") line) (counted (counts-in line) (λ planes. go planes (b + 1))) (no (refusal 6 6 0))
+  planes-line go line b = cond (starts (ascii "planes=") line) (counted (counts-in line) (λ planes. go planes (b + 1))) (notOpened (refusal 6 6 0))
 
   planes-wrong : (go : List ℕ → ℕ → Opening) (line : List ℕ) (b : ℕ) → planesMost < length line → planes-line go line b .refused .number ≡ 6
   unfolding asciiFrom
   planes-wrong go line b h = cases (starts (ascii "planes=") line) (counts-in line) refl
     where
-      cases : (s : Bool) (o : Option (List ℕ)) → counts-in line ≡ o → cond s (counted o (λ planes. go planes (b + 1))) (no (refusal 6 6 0)) .refused .number ≡ 6
+      cases : (s : Bool) (o : Option (List ℕ)) → counts-in line ≡ o → cond s (counted o (λ planes. go planes (b + 1))) (notOpened (refusal 6 6 0)) .refused .number ≡ 6
       cases false o e = refl
       cases true none e = refl
       cases true (some counts) e =
           let c = counts-read sh (drop 7 line) counts e in
           absurd (let z : ⊥ = omega (arith, counts-short sh (drop 7 line) counts few c, length-drop 7 line) in z)
 
-  module _ (l rest : List ℕ) (go all : List ℕ → ℕ → Opening) (follows : (counts : List ℕ) → PlanesLine sh l counts → Long (hasEnd rest) (go (padded layersMost counts) (before newline l + 1)) (all (padded layersMost counts) (before newline l + 1))) where
-    planes-same : before newline l < length l → Long (hasEnd rest) (planes-line go (take (before newline l) l) (before newline l)) (planes-line all (take (before newline l) l) (before newline l))
-    planes-same h = cases (starts (ascii "planes=") (take (before newline l) l)) (counts-in (take (before newline l) l)) refl refl
+  module _ (l rest : List ℕ) (go all : List ℕ → ℕ → Opening) (follows : (counts : List ℕ) → PlanesLine sh l counts → Long (hasEnd rest) (go (padded layersMost counts) (indexOf newline l + 1)) (all (padded layersMost counts) (indexOf newline l + 1))) where
+    planes-same : indexOf newline l < length l → Long (hasEnd rest) (planes-line go (take (indexOf newline l) l) (indexOf newline l)) (planes-line all (take (indexOf newline l) l) (indexOf newline l))
+    planes-same h = cases (starts (ascii "planes=") (take (indexOf newline l) l)) (counts-in (take (indexOf newline l) l)) refl refl
       where
-        cases : (s : Bool) (o : Option (List ℕ)) → starts (ascii "planes=") (take (before newline l) l) ≡ s → counts-in (take (before newline l) l) ≡ o
+        cases : (s : Bool) (o : Option (List ℕ)) → starts (ascii "planes=") (take (indexOf newline l) l) ≡ s → counts-in (take (indexOf newline l) l) ≡ o
             → Long (hasEnd rest)
-            (cond s (counted o (λ planes. go planes (before newline l + 1))) (no (refusal 6 6 0)))
-            (cond s (counted o (λ planes. all planes (before newline l + 1))) (no (refusal 6 6 0)))
+            (cond s (counted o (λ planes. go planes (indexOf newline l + 1))) (notOpened (refusal 6 6 0)))
+            (cond s (counted o (λ planes. all planes (indexOf newline l + 1))) (notOpened (refusal 6 6 0)))
         cases false o e f = refl
         cases true none e f = refl
         cases true (some counts) e f = follows counts (record { inside = h; key = e; counts-are = f })
 
     planes-long : planesMost < length l → Long (hasEnd rest) (takingPlanes sh l go) (takingPlanes sh (l ++ rest) all)
     planes-long h =
-        taken-long (no (refusal 5 0 0)) (planes-line go) (planes-line all) (Long (hasEnd rest)) l rest
+        taken-long (notOpened (refusal 5 0 0)) (planes-line go) (planes-line all) (Long (hasEnd rest)) l rest
         planes-same
         (λ e line m. rw e (planes-wrong all line (length line) (omega arith)))
         (λ e. rw e)
 
   -- how long it is where it is right
-  planes-short : (l counts : List ℕ) → PlanesLine sh l counts → before newline l ≤ planesMost
+  planes-short : (l counts : List ℕ) → PlanesLine sh l counts → indexOf newline l ≤ planesMost
   unfolding asciiFrom
   planes-short l counts p =
-      let line = take (before newline l) l in
+      let line = take (indexOf newline l) l in
       let c = counts-read sh (drop 7 line) counts (p .counts-are) in
-      omega (arith, p .inside, counts-short sh (drop 7 line) counts few c, length-drop 7 line, length-take (before newline l) l)
+      omega (arith, p .inside, counts-short sh (drop 7 line) counts few c, length-drop 7 line, length-take (indexOf newline l) l)
 
 -- ---- the lines in turn. A line that is read has at most 28 bytes (line 6 a few more), so at most 256 stand before line 7 and the first bytes have far more behind
 module _ (bs rest : List ℕ) (enough : bufferBytes ≤ length bs) where
@@ -150,7 +151,7 @@ module _ (bs rest : List ℕ) (enough : bufferBytes ≤ length bs) where
         (planes-long sh few line rest
         (λ planes n. openingCells bs (header planes) (at + n))
         (λ planes n. openingCells (bs ++ rest) (header planes) (at + n))
-        (λ counts p. cells-long (header (padded layersMost counts)) (at + (before newline line + 1)) (omega (arith, planes-short sh few line counts p)) (cells-few line counts p))
+        (λ counts p. cells-long (header (padded layersMost counts)) (at + (indexOf newline line + 1)) (omega (arith, planes-short sh few line counts p)) (cells-few line counts p))
         (omega (arith, length-drop at bs)))
 
     step-turn : (curve : Curve) (at : ℕ) → at ≤ 96 → Long ends (openingStep bs sh curve at) (openingStep (bs ++ rest) sh curve at)

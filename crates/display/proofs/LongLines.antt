@@ -14,45 +14,45 @@ use Rattle.text.specs.declared.Number.the-variants as N
 use Rattle.text.specs.declared.Line.{Line}
 use Rattle.text.specs.declared.Line.the-variants as L
 use Rattle.text.specs.Decimal.{parsed}
-use Rattle.text.specs.Line.{newline, before, starts, hasEnd, numbered, lineAt}
+use Rattle.text.specs.Line.{newline, indexOf, starts, hasEnd, numbered, lineAt}
 use Rattle.text.proofs.Digits.{length-most}
 use Rattle.text.proofs.Lines.{Written, written, line-length}
 use Rattle.text.proofs.Reading.{Spelt, spelt}
 use Rattle.text.proofs.Search.{Free, has-end, no-end, end-inside, end-past, before-le, before-in, before-past}
 use Rattle.header.specs.Header.{asciiFrom}
-use Rattle.header.specs.Opening.{same, curveLine, curveOf}
+use Rattle.header.specs.Opening.{isText, curveLine, curveOf}
 use Rattle.header.proofs.CurveLine.{curveWords, same-is, read-curve}
 
 -- ---- any line: f tells what its text and its length come to, and s is the answer where it has no end
 module _ {X : Type 0} (s : X) where
   abbrev taken : (List ℕ → ℕ → X) → List ℕ → X
-  taken f l = cond (hasEnd l) (f (take (before newline l) l) (before newline l)) s
+  taken f l = cond (hasEnd l) (f (take (indexOf newline l) l) (indexOf newline l)) s
 
   module _ (f g : List ℕ → ℕ → X) (P : X → X → Type 0) (l rest : List ℕ) where
-    inside-same : P (f (take (before newline l) l) (before newline l)) (g (take (before newline l) l) (before newline l)) → before newline l < length l → P (taken f l) (taken g (l ++ rest))
+    inside-same : P (f (take (indexOf newline l) l) (indexOf newline l)) (g (take (indexOf newline l) l) (indexOf newline l)) → indexOf newline l < length l → P (taken f l) (taken g (l ++ rest))
     inside-same p h =
         rw (
           before-in newline l rest h,
           has-end l h,
           has-end (l ++ rest) (omega (arith, before-in newline l rest h, length-append l rest)),
-          take-append-le (before newline l) l rest (omega arith),
+          take-append-le (indexOf newline l) l rest (omega arith),
         )
         p
 
-    outside-long : ((line : List ℕ) → length l ≤ length line → P s (g line (length line))) → Free newline l → before newline rest < length rest → P (taken f l) (taken g (l ++ rest))
+    outside-long : ((line : List ℕ) → length l ≤ length line → P s (g line (length line))) → Free newline l → indexOf newline rest < length rest → P (taken f l) (taken g (l ++ rest))
     outside-long p free h =
-        let line : List ℕ = l ++ take (before newline rest) rest in
-        let m : length l + before newline rest ≡ length line = omega (arith, length-append l (take (before newline rest) rest), length-take (before newline rest) rest) in
+        let line : List ℕ = l ++ take (indexOf newline rest) rest in
+        let m : length l + indexOf newline rest ≡ length line = omega (arith, length-append l (take (indexOf newline rest) rest), length-take (indexOf newline rest) rest) in
         rw (
           before-past newline l rest free,
           no-end l (omega arith),
           has-end (l ++ rest) (omega (arith, before-past newline l rest free, length-append l rest)),
-          take-append-add l rest (before newline rest),
+          take-append-add l rest (indexOf newline rest),
           m,
         )
         (p line (omega arith))
 
-    outside-short : P s s → Free newline l → length rest ≤ before newline rest → P (taken f l) (taken g (l ++ rest))
+    outside-short : P s s → Free newline l → length rest ≤ indexOf newline rest → P (taken f l) (taken g (l ++ rest))
     outside-short p free h =
         rw (
           before-past newline l rest free,
@@ -62,7 +62,7 @@ module _ {X : Type 0} (s : X) where
         p
 
     pub taken-long :
-        (before newline l < length l → P (f (take (before newline l) l) (before newline l)) (g (take (before newline l) l) (before newline l)))
+        (indexOf newline l < length l → P (f (take (indexOf newline l) l) (indexOf newline l)) (g (take (indexOf newline l) l) (indexOf newline l)))
         → (hasEnd rest ≡ true → (line : List ℕ) → length l ≤ length line → P s (g line (length line)))
         → (hasEnd rest ≡ false → P s s) → P (taken f l) (taken g (l ++ rest))
     taken-long inside long short =
@@ -107,7 +107,7 @@ module _ (key : List ℕ) (low high : ℕ) (small : high < 2 ^ 64) where
   unfolding lineAt
   line-long l rest h =
       taken-long L.Short number-line number-line (λ x y. y ≡ prolonged (hasEnd rest) x) l rest
-      (λ _. number-kept (hasEnd rest) (take (before newline l) l) (before newline l))
+      (λ _. number-kept (hasEnd rest) (take (indexOf newline l) l) (indexOf newline l))
       (λ e line m. rw e (number-wrong line (length line) (omega arith)))
       (λ e. rw e)
 
@@ -123,24 +123,24 @@ words-short Linear = omega arith
 words-short Cubic = omega arith
 
 abbrev curve-line : List ℕ → ℕ → Line
-curve-line line b = cond (same (curveWords Linear) line) (L.Number 0 (b + 1)) (cond (same (curveWords Cubic) line) (L.Number 1 (b + 1)) L.Wrong)
+curve-line line b = cond (isText (curveWords Linear) line) (L.Number 0 (b + 1)) (cond (isText (curveWords Cubic) line) (L.Number 1 (b + 1)) L.Wrong)
 
 curve-kept : (ends : Bool) (line : List ℕ) (b : ℕ) → curve-line line b ≡ prolonged ends (curve-line line b)
-curve-kept ends line b = go (same (curveWords Linear) line) (same (curveWords Cubic) line)
+curve-kept ends line b = go (isText (curveWords Linear) line) (isText (curveWords Cubic) line)
   where
     go : (s t : Bool) → cond s (L.Number 0 (b + 1)) (cond t (L.Number 1 (b + 1)) L.Wrong) ≡ prolonged ends (cond s (L.Number 0 (b + 1)) (cond t (L.Number 1 (b + 1)) L.Wrong))
     go true t = refl
     go false true = refl
     go false false = refl
 
-curve-not : (c : Curve) (line : List ℕ) → 12 < length line → same (curveWords c) line ≡ false
-curve-not c line h = not-yes (same (curveWords c) line) (λ e. let z : ⊥ = omega (arith, ap length (same-is (curveWords c) line e), words-short c) in z)
+curve-not : (c : Curve) (line : List ℕ) → 12 < length line → isText (curveWords c) line ≡ false
+curve-not c line h = not-yes (isText (curveWords c) line) (λ e. let z : ⊥ = omega (arith, ap length (same-is (curveWords c) line e), words-short c) in z)
 
 pub curve-long : (l rest : List ℕ) → 12 < length l → curveLine (l ++ rest) ≡ prolonged (hasEnd rest) (curveLine l)
 unfolding curveLine
 curve-long l rest h =
     taken-long L.Short curve-line curve-line (λ x y. y ≡ prolonged (hasEnd rest) x) l rest
-    (λ _. curve-kept (hasEnd rest) (take (before newline l) l) (before newline l))
+    (λ _. curve-kept (hasEnd rest) (take (indexOf newline l) l) (indexOf newline l))
     (λ e line m. rw (e, curve-not Linear line (omega arith), curve-not Cubic line (omega arith)))
     (λ e. rw e)
 

@@ -1,7 +1,7 @@
--- What is printed of an input that is longer than any card: it is never accepted, so it is the one line of the refusal that its first bytes tell, and whether a byte 10 follows, which may be looked for part by part.
+-- What is answered and printed of an input that is longer than any card: it is never accepted, so it is the number, and the one line, of the refusal that its first bytes tell, and whether a byte 10 follows, which may be looked for part by part.
 use mathlib.Core.Bool.{false, _||_}
 use mathlib.Core.List.{List, _++_}
-use mathlib.Core.Path.{_≡_, ap}
+use mathlib.Core.Path.{_≡_, ap, _∙_}
 use Prim.Native.Nat.{ℕ, _<_, _≤_}
 use native.Mathlib.Omega.{arith}
 use borrow.Author.Tests.{ne-eqb}
@@ -16,7 +16,8 @@ use Rattle.header.proofs.HeaderLines.{Accepts}
 use Rattle.header.proofs.Opens.{opened-right}
 use Rattle.header.proofs.Rightness.{right-yes}
 use Rattle.header.proofs.TextLength.{card-fits}
-use Rattle.display.specs.Shown.{textOf, seen, shownText, bufferBytes, longNumber}
+use Rattle.display.specs.Shown.{textOf, shownOf, shownText}
+use Rattle.display.specs.Workings.{bufferBytes, longNumber}
 use Rattle.display.proofs.AllPieces.{refused-shown}
 use Rattle.display.proofs.LongInput.{long-opening}
 
@@ -28,13 +29,16 @@ long-refused bs h e =
     let z : ⊥ = omega (arith, ap length (o .text-is), length-append text (drop (opening bs .long) bs), o .body-fits, card-fits (right-yes (opening bs .header) (o .right-is))) in
     z
 
-pub long-shown : (bs rest : List ℕ) → bufferBytes ≤ length bs → shownText (bs ++ rest) ≡ lineText (ascii "refused=") (longNumber (opening bs .refused .number) (hasEnd rest))
-unfolding shownText textOf
-long-shown bs rest enough =
-    let all : List ℕ = bs ++ rest in
-    let no : eqb (opening all .refused .number) 0 ≡ false = ne-eqb _ _ (long-refused all (omega (arith, length-append bs rest))) in
-    let number : seen all .refused .number ≡ opening all .refused .number = refused-shown all no in
-    rw (number, no) (ap (lineText (ascii "refused=")) (long-opening bs rest enough))
+module _ (bs rest : List ℕ) (enough : bufferBytes ≤ length bs) where
+  not-opened : eqb (opening (bs ++ rest) .refused .number) 0 ≡ false
+  not-opened = ne-eqb _ _ (long-refused (bs ++ rest) (omega (arith, length-append bs rest)))
+
+  pub long-number : shownOf (bs ++ rest) .number ≡ longNumber (opening bs .refused .number) (hasEnd rest)
+  long-number = refused-shown (bs ++ rest) not-opened ∙ long-opening bs rest enough
+
+  pub long-shown : shownText (bs ++ rest) ≡ lineText (ascii "refused=") (longNumber (opening bs .refused .number) (hasEnd rest))
+  unfolding shownText textOf
+  long-shown = rw (refused-shown (bs ++ rest) not-opened, not-opened) (ap (lineText (ascii "refused=")) (long-opening bs rest enough))
 
 -- ---- a byte 10 in one part or in the other
 pub end-append : (a b : List ℕ) → hasEnd (a ++ b) ≡ hasEnd a || hasEnd b

@@ -8,7 +8,8 @@ use borrow.Author.Tests.{eqb-true, eqb-false}
 use lib.Dec.{eqb}
 use Rattle.sheet.specs.declared.Shape.{Shape}
 use Rattle.sheet.specs.Limits.{pointsMost}
-use Rattle.sheet.specs.Sheet.{sized, accepted, points, pointsIn}
+use Rattle.sheet.specs.Sheet.{sized, accepted, points}
+use Rattle.sheet.specs.Workings.Shapes.{pointsIn}
 use Rattle.sheet.proofs.Accepting.{Sheet, accepted-yes, accepted-by, points-in}
 use Rattle.header.specs.Opening.{opening}
 use Rattle.header.proofs.HeaderLines.{Accepts}

@@ -1,10 +1,14 @@
 -- Pieces in order: some and then the others, and the same pieces under other numbers. Induction on how many there are.
-use mathlib.Core.List.{List, _++_, append-assoc}
+use mathlib.Core.List.{List, _++_, append-assoc, []}
 use mathlib.Core.Path.{_≡_, refl, ap, ap₂, sym, _∙_}
 use Prim.Native.Nat.{ℕ, zero, suc, _+_, _<_}
 use native.Mathlib.Nat.{add-zero, zero-add}
 use native.Mathlib.Omega.{arith}
-use Rattle.display.specs.Shown.{inOrder}
+
+-- n pieces in order, from piece i on
+unfoldable pub inOrder : (ℕ → List ℕ) → ℕ → ℕ → List ℕ
+inOrder piece zero i = []
+inOrder piece (suc n) i = piece i ++ inOrder piece n (suc i)
 
 pub order-split : (f : ℕ → List ℕ) (n m i : ℕ) → inOrder f (n + m) i ≡ inOrder f n i ++ inOrder f m (i + n)
 unfolding inOrder

@@ -12,8 +12,9 @@ use lib.Seq.{drop-cons, getD-take, getD-drop}
 use Rattle.text.specs.Line.{newline}
 use Rattle.text.specs.Joined.{comma}
 use Rattle.header.specs.Header.{ascii}
-use Rattle.display.specs.Shown.{signed, valuesText, rowsText, rowStart, rowEnd, valuePiece, inOrder}
-use Rattle.display.proofs.Order.{order-split, order-same}
+use Rattle.display.specs.Shown.{signed, valuesText, rowsText}
+use Rattle.display.proofs.Order.{inOrder, order-split, order-same}
+use Rattle.display.specs.Workings.{rowStart, rowEnd, valuePiece}
 
 values-cons : (v : ℤ) (vs : List ℤ) → 0 < length vs → valuesText (v ∷ vs) ≡ signed v ++ comma ∷ valuesText vs
 unfolding valuesText

@@ -13,7 +13,7 @@ use Rattle.header.specs.Refusals.{detailsOf}
 use Rattle.header.specs.Opening as O
 use Rattle.header.specs.Opening.{Opening, opening}
 use Rattle.card.specs.declared.Reached.{Reached}
-use Rattle.card.specs.Reading.{Reading, told, showing}
+use Rattle.card.specs.Reading.{Reading, asReading, showing}
 use Rattle.display.specs.Shown.{room, seen, shownOf, valuesOf}
 use Rattle.display.proofs.OpenedSize.{Small, opened-small}
 
@@ -22,7 +22,7 @@ take-replicate zero m x h = refl
 take-replicate (suc n) zero x h = absurd (let z : ⊥ = omega arith in z)
 take-replicate (suc n) (suc m) x h = ap (λ (l : List ℤ). x ∷ l) (take-replicate n m x (omega arith))
 
-module _ (bs : List ℕ) (o : Opened) (e : O.told o ≡ opening bs) where
+module _ (bs : List ℕ) (o : Opened) (e : O.asOpening o ≡ opening bs) where
   shape-is : o .header .shape ≡ opening bs .header .shape
   shape-is = ap (λ (x : Opening). x .header .shape) e
 
@@ -30,11 +30,11 @@ module _ (bs : List ℕ) (o : Opened) (e : O.told o ≡ opening bs) where
   sheet-small = rw shape-is (opened-small bs)
 
   module _ (r : Reached) (qs vs cs ws : List ℤ) (c : cs ≡ replicate pointsMost (pos 0)) (w : ws ≡ replicate pointsMost (pos 0))
-      (d : told r qs vs ≡ showing (take (points (o .header .shape)) cs) (take (points (o .header .shape)) ws) bs) where
+      (d : asReading r qs vs ≡ showing (take (points (o .header .shape)) cs) (take (points (o .header .shape)) ws) bs) where
     cut : (l : List ℤ) → l ≡ replicate pointsMost (pos 0) → take (points (o .header .shape)) l ≡ room bs
     cut l f = ap (take (points (o .header .shape))) f ∙ take-replicate (points (o .header .shape)) pointsMost (pos 0) (sheet-small .1) ∙ ap (λ (s : Shape). replicate (points s) (pos 0)) shape-is
 
-    seen-is : told r qs vs ≡ seen bs
+    seen-is : asReading r qs vs ≡ seen bs
     seen-is = d ∙ ap₂ (λ (a b : List ℤ). showing a b bs) (cut cs c) (cut ws w)
 
     pub shown-is : record { number = detailsOf (r .refusal) .number; shape = o .header .shape; plan = r .plan; figure = r .figure } ≡ shownOf bs

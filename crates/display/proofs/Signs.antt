@@ -7,7 +7,8 @@ use lib.IntN.{ℤ, pos, negsuc, natAbs}
 use lib.ListN.{length}
 use lib.Signed.{mag}
 use Rattle.integers.specs.Distance.{up, down}
-use Rattle.text.specs.Decimal.{digits, charactersMost}
+use Rattle.text.specs.Decimal.{decimal}
+use Rattle.text.specs.Workings.{charactersMost}
 use Rattle.text.proofs.Digits.{length-most}
 use Rattle.header.specs.Header.{asciiFrom, ascii}
 use Rattle.display.specs.Shown.{signed}
@@ -16,7 +17,7 @@ pub size-below : (x : ℤ) (n : ℕ) → up x + (n + 1) ≡ down x → n + 1 ≡
 size-below (pos m) n e = omega arith
 size-below (negsuc m) n e = omega arith
 
-pub signed-below : (x : ℤ) → up x < down x → signed x ≡ ascii "-" ++ digits (natAbs x)
+pub signed-below : (x : ℤ) → up x < down x → signed x ≡ ascii "-" ++ decimal (natAbs x)
 unfolding signed
 signed-below (pos m) l = absurd (never m l)
   where
@@ -24,7 +25,7 @@ signed-below (pos m) l = absurd (never m l)
     never m l = omega arith
 signed-below (negsuc m) l = refl
 
-pub signed-above : (x : ℤ) → down x ≤ up x → signed x ≡ digits (natAbs x)
+pub signed-above : (x : ℤ) → down x ≤ up x → signed x ≡ decimal (natAbs x)
 unfolding signed
 signed-above (pos m) l = refl
 signed-above (negsuc m) l = absurd (never m l)

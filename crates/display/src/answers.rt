@@ -4,10 +4,12 @@ ghost use Prim.Native.Nat.{_≤_};
 ghost use lib.IntN.{pos};
 ghost use lib.ListN.{replicate, take};
 ghost use Rattle.sheet.specs.Limits.{pointsMost};
-ghost use Rattle.sheet.specs.Sheet.{points, pointsIn};
+ghost use Rattle.sheet.specs.Sheet.{points};
+ghost use Rattle.sheet.specs.Workings.Shapes.{pointsIn};
 ghost use Rattle.text.specs.Line as L;
 ghost use Rattle.header.specs.Opening as O;
 ghost use Rattle.display.specs.Shown as S;
+ghost use Rattle.display.specs.Workings as W;
 use crate::Ahead;
 use crate::CHUNK;
 use crate::Shown;
@@ -33,8 +35,8 @@ pub(crate) fn shown_of(bytes: &[u8], coefficients: &mut [i32], values: &mut [i64
     }
 }
 
-// The number of the refusal that opening gives.
-pub(crate) fn opening_number(bytes: &[u8]) -> u64
+// The number of the refusal that opening gives, 0 where it gives none.
+pub fn opening_number(bytes: &[u8]) -> u64
     ensures { λ r. ⌜ r ≡ O.opening (now (bytes .entry)) .refused .number ⌝ }
 {
     let opened = header::open(bytes);
@@ -50,9 +52,9 @@ fn has_end(bytes: &[u8]) -> bool
     text::find(bytes, 0, b'\n') < bytes.len()
 }
 
-// What the bytes of one turn tell of a file: fewer than were asked for are its last.
-pub(crate) fn ahead_of(bytes: &[u8]) -> Ahead
-    ensures { λ r. ⌜ r ≡ S.aheadOf (now (bytes .entry)) ⌝ }
+// What the bytes of one turn tell of the rest of an input: fewer than were asked for are its last.
+pub fn ahead_of(bytes: &[u8]) -> Ahead
+    ensures { λ r. ⌜ r ≡ W.aheadOf (now (bytes .entry)) ⌝ }
 {
     if has_end(bytes) {
         return Ahead::End;
@@ -65,7 +67,7 @@ pub(crate) fn ahead_of(bytes: &[u8]) -> Ahead
 
 // The number of the refusal of an input that is longer than any card: that of its first bytes, but for a line whose byte 10 comes later.
 pub(crate) fn long_number(number: u64, ends: bool) -> u64
-    ensures { λ r. ⌜ r ≡ S.longNumber number ends ⌝ }
+    ensures { λ r. ⌜ r ≡ W.longNumber number ends ⌝ }
 {
     if number == 5 {
         if ends { 6 } else { 5 }

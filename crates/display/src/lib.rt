@@ -1,11 +1,15 @@
-// What the program show prints: the pieces of text of a card that is shown, and the printing, which only loops and writes them.
+// What the program show prints: what is to be shown of a card's bytes, its pieces of text, and the printing, which only loops and writes them. Reading
+// a card, and looking through an input that is longer than any card, is left to the program.
 mod answers;
 mod pieces;
 mod printing;
 
+pub use answers::ahead_of;
+pub use answers::opening_number;
 use header::Plan;
 pub use pieces::piece_at;
 pub use printing::show;
+pub use printing::show_long;
 use sheet::MOST_LAYERS;
 use sheet::Shape;
 use text::MOST_CHARACTERS;
@@ -21,7 +25,7 @@ pub struct Piece {
     pub length: usize,
 }
 
-// What is shown of a card: the number of its refusal, or 0 and the sheet's shape, the planes loaded and the figure.
+// What is shown of a card but for its values: the number of its refusal, or 0 and the sheet's shape, the planes loaded and the figure.
 pub struct Shown {
     pub number: u64,
     pub shape: Shape,
@@ -29,12 +33,15 @@ pub struct Shown {
     pub figure: u64,
 }
 
-// What the next bytes of a file hold: a byte 10, none and the file's end, or none yet.
-pub(crate) enum Ahead {
+// How much of an input is read at first. A card has at most 32,768 bytes, so an input that has as many as this is none.
+pub const BUFFER: usize = 40000;
+
+// How much more is looked at in one turn.
+pub const CHUNK: usize = 4096;
+
+// What the bytes of one turn tell of the rest of an input: a byte 10 follows, none does, or more has to be looked at.
+pub enum Ahead {
     End,
     Nothing,
     More,
 }
-
-// How much of a file is looked at in one turn.
-pub(crate) const CHUNK: usize = 4096;

@@ -6,9 +6,11 @@ ghost use lib.IntN.{natAbs};
 ghost use lib.ListN.{length, take};
 ghost use Rattle.sheet.specs.Limits.{layersMost, pointsMost};
 ghost use Rattle.text.specs.Decimal as T;
+ghost use Rattle.text.specs.Workings as W;
 ghost use Rattle.text.specs.Line as L;
 ghost use Rattle.text.specs.Joined as J;
 ghost use Rattle.display.specs.Shown as S;
+ghost use Rattle.display.specs.Workings as Wk;
 use crate::MOST_PIECE;
 use crate::Piece;
 use crate::Shown;
@@ -20,7 +22,7 @@ use sheet::Shape;
 const SHEET_LINES: usize = 4;
 
 fn nothing() -> Piece
-    ensures { λ r. ⌜ r ≡ S.pieceOf [] ⌝ }
+    ensures { λ r. ⌜ r ≡ Wk.pieceOf [] ⌝ }
 {
     Piece {
         bytes: [0; MOST_PIECE],
@@ -30,8 +32,8 @@ fn nothing() -> Piece
 
 // A piece with a text behind it.
 fn with_text(piece: Piece, text: &[u8]) -> Piece
-    requires { ⌜ piece .length + length (now text) ≤ S.pieceMost ⌝ }
-    ensures { λ r. ⌜ r ≡ S.extended piece (now (text .entry)) ⌝ }
+    requires { ⌜ piece .length + length (now text) ≤ Wk.pieceMost ⌝ }
+    ensures { λ r. ⌜ r ≡ Wk.extended piece (now (text .entry)) ⌝ }
 {
     let mut bytes = piece.bytes;
     let length = text::put(&mut bytes, piece.length, text);
@@ -40,8 +42,8 @@ fn with_text(piece: Piece, text: &[u8]) -> Piece
 
 // A piece with a number behind it.
 fn with_number(piece: Piece, n: u64) -> Piece
-    requires { ⌜ piece .length + T.charactersMost ≤ S.pieceMost ⌝ }
-    ensures { λ r. ⌜ r ≡ S.extended piece (T.digits n) ⌝ }
+    requires { ⌜ piece .length + W.charactersMost ≤ Wk.pieceMost ⌝ }
+    ensures { λ r. ⌜ r ≡ Wk.extended piece (T.decimal n) ⌝ }
 {
     let mut bytes = piece.bytes;
     let length = text::put_number(&mut bytes, piece.length, n);
@@ -61,8 +63,8 @@ fn magnitude(value: i64) -> u64
 
 // A piece with a value behind it, a minus before a negative one.
 fn with_value(piece: Piece, value: i64) -> Piece
-    requires { ⌜ piece .length + 1 + T.charactersMost ≤ S.pieceMost ⌝ }
-    ensures { λ r. ⌜ r ≡ S.extended piece (S.signed value) ⌝ }
+    requires { ⌜ piece .length + 1 + W.charactersMost ≤ Wk.pieceMost ⌝ }
+    ensures { λ r. ⌜ r ≡ Wk.extended piece (S.signed value) ⌝ }
 {
     if value < 0 {
         with_number(with_text(piece, b"-"), magnitude(value))
@@ -72,17 +74,17 @@ fn with_value(piece: Piece, value: i64) -> Piece
 }
 
 // The line of a key and a number.
-pub(crate) fn line(key: &[u8], n: u64) -> Piece
-    requires { ⌜ length (now key) ≤ S.keyMost ⌝ }
-    ensures { λ r. ⌜ r ≡ S.pieceOf (L.lineText (now (key .entry)) n) ⌝ }
+fn line(key: &[u8], n: u64) -> Piece
+    requires { ⌜ length (now key) ≤ Wk.keyMost ⌝ }
+    ensures { λ r. ⌜ r ≡ Wk.pieceOf (L.lineText (now (key .entry)) n) ⌝ }
 {
     with_text(with_number(with_text(nothing(), key), n), b"\n")
 }
 
 // A piece with the first `count` numbers behind it, commas between.
 fn with_list(piece: Piece, numbers: [u64; MOST_LAYERS], count: usize) -> Piece
-    requires { ⌜ (count ≤ layersMost) × (piece .length + length (J.joined (take count numbers)) ≤ S.pieceMost) ⌝ }
-    ensures { λ r. ⌜ r ≡ S.extended piece (J.joined (take count numbers)) ⌝ }
+    requires { ⌜ (count ≤ layersMost) × (piece .length + length (J.joined (take count numbers)) ≤ Wk.pieceMost) ⌝ }
+    ensures { λ r. ⌜ r ≡ Wk.extended piece (J.joined (take count numbers)) ⌝ }
 {
     let mut bytes = piece.bytes;
     let length = text::put_joined(&mut bytes, piece.length, &numbers[..count]);
@@ -91,7 +93,7 @@ fn with_list(piece: Piece, numbers: [u64; MOST_LAYERS], count: usize) -> Piece
 
 // The line of the planes loaded.
 pub(crate) fn loaded_line(shape: Shape, plan: Plan) -> Piece
-    ensures { λ r. ⌜ r ≡ S.pieceOf (S.loadedText shape plan) ⌝ }
+    ensures { λ r. ⌜ r ≡ Wk.pieceOf (S.loadedText shape plan) ⌝ }
 {
     let planes = plan.planes;
     let key = with_text(nothing(), b"loaded=");
@@ -100,7 +102,7 @@ pub(crate) fn loaded_line(shape: Shape, plan: Plan) -> Piece
 
 // What stands before a value: the key of its line, where it is the first.
 fn row_start(column: usize) -> Piece
-    ensures { λ r. ⌜ r ≡ S.pieceOf (S.rowStart column) ⌝ }
+    ensures { λ r. ⌜ r ≡ Wk.pieceOf (Wk.rowStart column) ⌝ }
 {
     if column == 0 {
         with_text(nothing(), b"row=")
@@ -111,8 +113,8 @@ fn row_start(column: usize) -> Piece
 
 // What stands behind a value: a comma, or the line's end behind the last.
 fn with_end(piece: Piece, last: bool) -> Piece
-    requires { ⌜ piece .length + 1 ≤ S.pieceMost ⌝ }
-    ensures { λ r. ⌜ r ≡ S.extended piece (S.rowEnd last) ⌝ }
+    requires { ⌜ piece .length + 1 ≤ Wk.pieceMost ⌝ }
+    ensures { λ r. ⌜ r ≡ Wk.extended piece (Wk.rowEnd last) ⌝ }
 {
     if last {
         with_text(piece, b"\n")
@@ -123,7 +125,7 @@ fn with_end(piece: Piece, last: bool) -> Piece
 
 // Value i of a sheet of so many columns, with what stands before and behind it in its line; nothing where there is none.
 pub(crate) fn value_piece(values: &[i64], cols: usize, i: usize) -> Piece
-    ensures { λ r. ⌜ r ≡ S.pieceOf (S.valuePiece (now (values .entry)) cols i) ⌝ }
+    ensures { λ r. ⌜ r ≡ Wk.pieceOf (Wk.valuePiece (now (values .entry)) cols i) ⌝ }
 {
     if values.len() <= i {
         return nothing();
@@ -138,7 +140,7 @@ pub(crate) fn value_piece(values: &[i64], cols: usize, i: usize) -> Piece
 
 // Line i of those before the values.
 fn sheet_line(shown: Shown, i: usize) -> Piece
-    ensures { λ r. ⌜ r ≡ S.pieceOf (S.sheetLine shown i) ⌝ }
+    ensures { λ r. ⌜ r ≡ Wk.pieceOf (Wk.sheetLine shown i) ⌝ }
 {
     let shape = shown.shape;
     let rows = shape.rows;
@@ -157,8 +159,8 @@ fn sheet_line(shown: Shown, i: usize) -> Piece
 }
 
 // The one line of a refused card.
-fn refused_line(number: u64, i: usize) -> Piece
-    ensures { λ r. ⌜ r ≡ S.pieceOf (S.refusedLine number i) ⌝ }
+pub(crate) fn refused_line(number: u64, i: usize) -> Piece
+    ensures { λ r. ⌜ r ≡ Wk.pieceOf (Wk.refusedLine number i) ⌝ }
 {
     if i == 0 {
         line(b"refused=", number)
@@ -169,7 +171,7 @@ fn refused_line(number: u64, i: usize) -> Piece
 
 // Piece i of the text that is printed; nothing past the last.
 pub fn piece_at(shown: Shown, values: &[i64], i: usize) -> Piece
-    ensures { λ r. ⌜ r ≡ S.pieceOf (S.pieceAt shown (now (values .entry)) i) ⌝ }
+    ensures { λ r. ⌜ r ≡ Wk.pieceOf (Wk.pieceAt shown (now (values .entry)) i) ⌝ }
 {
     let shape = shown.shape;
     let cols = shape.cols;
@@ -185,7 +187,7 @@ pub fn piece_at(shown: Shown, values: &[i64], i: usize) -> Piece
 // How many pieces the text has.
 pub(crate) fn pieces(number: u64, values: &[i64]) -> usize
     requires { ⌜ length (now values) ≤ pointsMost ⌝ }
-    ensures { λ r. ⌜ r ≡ S.pieces number (now (values .entry)) ⌝ }
+    ensures { λ r. ⌜ r ≡ Wk.pieces number (now (values .entry)) ⌝ }
 {
     if number != 0 {
         1

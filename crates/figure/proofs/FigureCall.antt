@@ -1,10 +1,10 @@
--- The calls: of a right header and a plan of it the figure is answered. For a card, by what opening answers: a refusal is passed on, and behind a header that was opened the plan decides.
+-- The calls: behind a right header the plan decides between a refusal and the figure. A header that is none is refused; for a card it is by what opening answers, and a refusal is passed on.
 use mathlib.Core.Bool.{true}
 use mathlib.Core.List.{List}
 use mathlib.Core.Path.{_≡_}
 use Prim.Native.Nat.{ℕ, _<_}
 use native.Mathlib.Omega.{arith}
-use borrow.Author.Tests.{eq-eqb, ne-eqb, lt-ltb, le-ltb}
+use borrow.Author.Tests.{ne-eqb, lt-ltb, le-ltb}
 use Rattle.sheet.specs.Limits.{layersMost}
 use Rattle.header.specs.declared.Header.{Header}
 use Rattle.header.specs.declared.Opened.{Opened}
@@ -13,28 +13,35 @@ use Rattle.header.specs.declared.Refusal.the-variants as R
 use Rattle.header.specs.Refusals.{refusal, detailsOf}
 use Rattle.header.specs.Header.{planesOf}
 use Rattle.header.specs.Plan.{firstOver, loads}
-use Rattle.header.specs.Opening.{opening, right, told}
-use Rattle.figure.specs.Figure.{figureOf, boundOf, bounding, boundedBy, noBound}
+use Rattle.header.specs.Opening.{opening, wellFormed, asOpening}
+use Rattle.figure.specs.Figure.{figureOf}
+use Rattle.figure.specs.Bounding.{bounding, boundedBy, notBounded}
+use Rattle.figure.specs.Workings.{boundOf}
 
-pub bound-right : (h : Header) → right h ≡ true → (plan : Plan) → firstOver (planesOf h) (loads plan) ≡ layersMost → boundOf h plan ≡ figureOf h (loads plan)
-unfolding boundOf
-bound-right h r plan e = rw (r, eq-eqb (firstOver (planesOf h) (loads plan)) layersMost e)
+module _ (h : Header) (plan : Plan) where
+  abbrev place : ℕ
+  place = firstOver (planesOf h) (loads plan)
 
-module _ (bs : List ℕ) (plan : Plan) (r : Opened) (e : told r ≡ opening bs) where
-  pub bound-refused : (detailsOf (r .refusal) .number ≡ 0 → ⊥) → noBound (detailsOf (r .refusal)) ≡ bounding bs plan
+  pub bound-over : place < layersMost → notBounded (refusal 9 place 0) ≡ boundedBy h (loads plan) place
+  bound-over l = rw (lt-ltb place layersMost l)
+
+  pub bound-is : place ≡ layersMost → record { refused = refusal 0 0 0; figure = figureOf h (loads plan) } ≡ boundedBy h (loads plan) place
+  bound-is e = rw (le-ltb place layersMost (omega arith))
+
+  module _ (r : wellFormed h ≡ true) where
+    pub bound-of : boundedBy h (loads plan) place ≡ boundOf h plan
+    unfolding boundOf
+    bound-of = rw r
+
+    pub bound-right : place ≡ layersMost → boundOf h plan .figure ≡ figureOf h (loads plan)
+    unfolding boundOf
+    bound-right e = rw (r, le-ltb place layersMost (omega arith))
+
+module _ (bs : List ℕ) (plan : Plan) (r : Opened) (e : asOpening r ≡ opening bs) where
+  pub bound-refused : (detailsOf (r .refusal) .number ≡ 0 → ⊥) → notBounded (detailsOf (r .refusal)) ≡ bounding bs plan
   unfolding bounding
   bound-refused n = rw (← e, ne-eqb (detailsOf (r .refusal) .number) 0 n)
 
-  module _ (yes : r .refusal ≡ R.Accepted) where
-    abbrev place : ℕ
-    place = firstOver (planesOf (r .header)) (loads plan)
-
-    by-place : boundedBy (r .header) (loads plan) place ≡ bounding bs plan
-    unfolding bounding
-    by-place = rw (← e, yes)
-
-    pub bound-over : place < layersMost → noBound (refusal 9 place 0) ≡ bounding bs plan
-    bound-over h = rw (lt-ltb place layersMost h) at by-place
-
-    pub bound-is : place ≡ layersMost → record { refused = refusal 0 0 0; figure = figureOf (r .header) (loads plan) } ≡ bounding bs plan
-    bound-is h = rw (le-ltb place layersMost (omega arith)) at by-place
+  pub bound-opened : r .refusal ≡ R.Accepted → boundedBy (r .header) (loads plan) (firstOver (planesOf (r .header)) (loads plan)) ≡ bounding bs plan
+  unfolding bounding
+  bound-opened y = rw (← e, y)

@@ -13,7 +13,7 @@ use Rattle.header.specs.declared.Header.{Header}
 use Rattle.header.specs.Header.{planesOf}
 use Rattle.header.proofs.Rightness.{Right, counts-few}
 use Rattle.figure.specs.declared.Rule.{Rule}
-use Rattle.figure.specs.Figure.{ruleOf, carriedIn, carryOf, chargeOf, chargeIn}
+use Rattle.figure.specs.Workings.{ruleOf, carriedIn, carryOf, chargeOf, chargeIn}
 use Rattle.figure.proofs.Figures.{own-most}
 
 -- ---- carrying

@@ -6,7 +6,8 @@ use native.Mathlib.Decide.{decLt, ℕ-discrete}
 use native.Mathlib.Omega.{arith}
 use borrow.Author.Tests.{ne-eqb}
 use Rattle.digits.proofs.Losses.{loss-none}
-use Rattle.sheet.specs.Sheet.{sizeAt, layers, layerSize}
+use Rattle.sheet.specs.Sheet.{layers, layerSize}
+use Rattle.sheet.specs.Workings.Shapes.{sizeAt}
 use Rattle.layers.specs.Carry as C
 use Rattle.sheet.specs.Limits.{layersMost}
 use Rattle.layers.proofs.Standing.{standing-empty, standing-more}
@@ -14,7 +15,8 @@ use Rattle.header.specs.declared.Header.{Header}
 use Rattle.header.specs.Header.{planesOf}
 use Rattle.header.proofs.Cells.{size-there, size-past}
 use Rattle.header.proofs.Rightness.{Right, layers-few, counts-past, counts-empty}
-use Rattle.figure.specs.Figure.{ownLoss, figureOf, ruleOf, carryOf, chargeOf}
+use Rattle.figure.specs.Figure.{ownLoss, figureOf}
+use Rattle.figure.specs.Workings.{ruleOf, carryOf, chargeOf}
 use Rattle.figure.proofs.Figures.{standing-small, standing-most}
 
 -- what stands after the first k places, n k planes of layer k being loaded

@@ -1,1 +1,3 @@
 pub mod Figure
+pub mod Bounding
+pub mod Workings

@@ -6,6 +6,8 @@ ghost use Rattle.header.specs.Header as Hd;
 ghost use Rattle.header.specs.Plan as P;
 ghost use Rattle.header.specs.Opening as O;
 ghost use Rattle.figure.specs.Figure as F;
+ghost use Rattle.figure.specs.Bounding as Wk;
+ghost use Rattle.figure.specs.Workings as W;
 use crate::Bounded;
 use crate::rules::carried;
 use crate::rules::charge;
@@ -17,7 +19,7 @@ use sheet::MOST_LAYERS;
 
 // A layer that is not there changes nothing, so that all the places for layers may be passed.
 fn figure_of(header: Header, plan: Plan) -> u64
-    requires { ⌜ O.right header ≡ true ⌝ }
+    requires { ⌜ O.wellFormed header ≡ true ⌝ }
     requires { ⌜ P.firstOver (Hd.planesOf header) (P.loads plan) ≡ layersMost ⌝ }
     ensures { λ r. ⌜ r ≡ F.figureOf header (P.loads plan) ⌝ }
 {
@@ -30,43 +32,49 @@ fn figure_of(header: Header, plan: Plan) -> u64
     header.step + standing
 }
 
-// The figure of a plan of a header; 0 where opening gives no such header or the plan is none of it.
-pub fn error_bound(header: Header, plan: Plan) -> u64
-    ensures { λ r. ⌜ r ≡ F.boundOf header plan ⌝ }
+// The figure of a plan of a well-formed header, unless the plan asks for more than its planes.
+fn bounded(header: Header, plan: Plan) -> Bounded
+    requires { ⌜ O.wellFormed header ≡ true ⌝ }
+    ensures { λ r. ⌜ Wk.asBounding r ≡ Wk.boundedBy header (P.loads plan) (P.firstOver (Hd.planesOf header) (P.loads plan)) ⌝ }
 {
-    if !header::is_right(header) {
-        return 0;
-    }
     let counts = header.planes;
     let loaded = plan.planes;
-    if header::first_over(counts, loaded) < MOST_LAYERS {
-        return 0;
+    let place = header::first_over(counts, loaded);
+    if place < MOST_LAYERS {
+        return Bounded {
+            refusal: Refusal::BadPlan(place as u64),
+            figure: 0,
+        };
     }
-    figure_of(header, plan)
+    Bounded {
+        refusal: Refusal::Accepted,
+        figure: figure_of(header, plan),
+    }
+}
+
+// The figure of a plan of any header; refused where opening gives no such header.
+pub fn error_bound(header: Header, plan: Plan) -> Bounded
+    ensures { λ r. ⌜ Wk.asBounding r ≡ W.boundOf header plan ⌝ }
+{
+    if !header::is_well_formed(header) {
+        return Bounded {
+            refusal: Refusal::BadLengths,
+            figure: 0,
+        };
+    }
+    bounded(header, plan)
 }
 
 // The figure of a plan of a card, truncated or whole.
 pub fn figure(bytes: &[u8], plan: Plan) -> Bounded
-    ensures { λ r. ⌜ F.toldBound r ≡ F.bounding (now (bytes .entry)) plan ⌝ }
+    ensures { λ r. ⌜ Wk.asBounding r ≡ Wk.bounding (now (bytes .entry)) plan ⌝ }
 {
     let opened = header::open(bytes);
     let refusal = opened.refusal;
     match refusal {
         Refusal::Accepted => {
             let header = opened.header;
-            let counts = header.planes;
-            let loaded = plan.planes;
-            let place = header::first_over(counts, loaded);
-            if place < MOST_LAYERS {
-                return Bounded {
-                    refusal: Refusal::BadPlan(place as u64),
-                    figure: 0,
-                };
-            }
-            Bounded {
-                refusal: Refusal::Accepted,
-                figure: figure_of(header, plan),
-            }
+            bounded(header, plan)
         }
         _ => Bounded { refusal, figure: 0 },
     }

@@ -1,6 +1,6 @@
 // The rules of a layer: how it carries what stands before it, and what it adds of its own.
 ghost use mathlib.Core.Path.{_≡_};
-ghost use Rattle.figure.specs.Figure as F;
+ghost use Rattle.figure.specs.Workings as W;
 use crate::Rule;
 use header::Header;
 use header::MOST_PLACES;
@@ -13,7 +13,7 @@ const MOST_CARRIED: u64 = u64::MAX / 5 * 4;
 
 // The rule by which a layer carries: an empty layer, and one that is not there, changes nothing, as the linear curve does.
 pub fn rule_of(header: Header, layer: usize) -> Rule
-    ensures { λ r. ⌜ r ≡ F.ruleOf header layer ⌝ }
+    ensures { λ r. ⌜ r ≡ W.ruleOf header layer ⌝ }
 {
     if sheet::layer_size(header.shape, layer) == 0 {
         return Rule {
@@ -26,7 +26,7 @@ pub fn rule_of(header: Header, layer: usize) -> Rule
 
 // What M is carried to by a rule: by the cubic curve's 5M/4 rounded up, that is, M and a quarter of it rounded up. Where that does not fit, the largest number.
 pub fn carried(rule: Rule, m: u64) -> u64
-    ensures { λ r. ⌜ r ≡ F.carriedIn rule m ⌝ }
+    ensures { λ r. ⌜ r ≡ W.carriedIn rule m ⌝ }
 {
     let curve = rule.curve;
     match curve {
@@ -40,23 +40,23 @@ pub fn carried(rule: Rule, m: u64) -> u64
     }
 }
 
-// What a layer adds of its own where n of its planes are loaded, loss × w; 0 for a layer that is not there, a step or a count of planes that no card has, and more planes than the layer has.
+// What a layer adds of its own where n of its planes are loaded, loss × w. Nothing can be said of a layer that is not there, a step or a count of planes that no card has, or more planes than the layer has: the largest number.
 pub fn charge(header: Header, layer: usize, n: u64) -> u64
-    ensures { λ r. ⌜ r ≡ F.chargeIn header layer n ⌝ }
+    ensures { λ r. ⌜ r ≡ W.chargeIn header layer n ⌝ }
 {
     if MOST_LAYERS <= layer {
-        return 0;
+        return u64::MAX;
     }
     if MOST_STEP < header.step {
-        return 0;
+        return u64::MAX;
     }
     let counts = header.planes;
     let count = counts[layer];
     if MOST_PLACES < count {
-        return 0;
+        return u64::MAX;
     }
     if count < n {
-        return 0;
+        return u64::MAX;
     }
     digits::loss(count - n) * layers::width_of(header.step)
 }

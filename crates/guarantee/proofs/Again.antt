@@ -1,4 +1,4 @@
--- Demand 2, its first half: what is read with all planes are coefficients whose counts and planes are the card's own, and writing the values rebuilt from them makes these coefficients again; so the header is the same, and so are the bytes behind it.
+-- Demand 2, its second sentence: what is read with all planes are coefficients whose counts and planes are the card's own, and writing the values rebuilt from them makes these coefficients again; so the header is the same, and so are the bytes behind it.
 use mathlib.Core.List.{List, _++_}
 use mathlib.Core.Path.{_≡_, sym, ap, _∙_, subst}
 use Prim.Native.Nat.{ℕ}
@@ -7,8 +7,10 @@ use lib.ListN.{length, drop}
 use Rattle.integers.specs.Distance.{Within}
 use Rattle.sheet.specs.Limits.{sampleMost}
 use Rattle.sheet.specs.Lists.{at}
-use Rattle.layers.specs.Layering.{Layering, Proper, layering, rebuilt, written, coefs}
-use Rattle.layers.specs.Loops.{Samples}
+use Rattle.sheet.specs.Sheet.{points}
+use Rattle.layers.specs.Layering.{Layering, layering, rebuilt, written, coefs}
+use Rattle.layers.proofs.Proper.{Proper}
+use Rattle.layers.specs.Workings.Loops.{Samples}
 use Rattle.layers.proofs.Law.{length-rebuilt, write-back, coefs-back}
 use Rattle.layers.proofs.SheetLaw.{sheet-proper}
 use Rattle.header.specs.declared.Header.{Header}
@@ -59,19 +61,19 @@ module _ (bs : List ℕ) (qs vs : List ℤ) (card : Readable bs qs vs) where
   opens : Opens bs h long
   opens = opens-right bs (passed .opens)
 
-  is-right : Right h
-  is-right = right-header bs (passed .opens)
+  is-well-formed : Right h
+  is-well-formed = right-header bs (passed .opens)
 
   -- the card of the coefficients read is the card
   card-again : cardOf (h .shape) (h .curve) (h .step) coefficients ≡ bs
   unfolding cardOf
   card-again =
-      ap (λ (g : Header). headerText g ++ body g coefficients) (header-again is-right (passed .taken) (opens .counts-long))
-      ∙ ap (λ (l : List ℕ). headerText h ++ l) (carried-body is-right (read-carries is-right (passed .taken)) (card .bytes) (card .whole))
+      ap (λ (g : Header). headerText g ++ body g coefficients) (header-again is-well-formed (passed .taken) (opens .counts-long))
+      ∙ ap (λ (l : List ℕ). headerText h ++ l) (carried-body is-well-formed (read-carries is-well-formed (passed .taken)) (card .bytes) (card .whole))
       ∙ sym (opens .text-is)
 
   proper : Proper sheet
-  proper = sheet-proper (h .shape) (is-right .shape) (h .curve)
+  proper = sheet-proper (h .shape) (is-well-formed .shape) (h .curve)
 
   -- writing the values makes the coefficients and the values again
   coefficients-again : coefs sheet (h .step) values ≡ coefficients
@@ -83,19 +85,19 @@ module _ (bs : List ℕ) (qs vs : List ℤ) (card : Readable bs qs vs) where
   samples : Samples (h .shape) (h .step) values
   samples =
       record {
-        shape = is-right .shape;
-        step = is-right .step;
+        shape = is-well-formed .shape;
+        step = is-well-formed .step;
         long = length-rebuilt sheet (h .step) coefficients;
         small = λ p _. subst (λ (r : Reading). Within sampleMost (at (r .values) p)) gives (card .range p);
       }
 
   -- and so the card
-  made : (qs′ vs′ : List ℤ) (out : List ℕ) → Room (length vs) qs′ vs′ out → WritesBack bs (readAs h long bs plan) qs′ vs′ out
+  made : (qs′ vs′ : List ℤ) (out : List ℕ) → Room (points (h .shape)) qs′ vs′ out → WritesBack bs (readAs h long bs plan) qs′ vs′ out
   made qs′ vs′ out room =
       let text : cardOf (h .shape) (h .curve) (h .step) (coefs sheet (h .step) values) ≡ bs =
       ap (cardOf (h .shape) (h .curve) (h .step)) coefficients-again ∙ card-again in
       passes-written values (h .shape) (h .curve) (h .step) qs′ vs′ out
-      (samples-pass values (h .shape) (h .curve) (h .step) qs′ vs′ out samples (subst (λ (n : ℕ). Room n qs′ vs′ out) (passed .slices .values) room))
+      (samples-pass values (h .shape) (h .curve) (h .step) qs′ vs′ out samples room)
       ∙ (λ i. record {
         refused = refusal 0 0 0;
         long = length (text i);
@@ -104,7 +106,7 @@ module _ (bs : List ℕ) (qs vs : List ℤ) (card : Readable bs qs vs) where
         output = text i ++ drop (length (text i)) out;
       })
 
-  back : (qs′ vs′ : List ℤ) (out : List ℕ) → Room (length vs) qs′ vs′ out → WritesBack bs (readAll qs vs bs) qs′ vs′ out
+  back : (qs′ vs′ : List ℤ) (out : List ℕ) → Room (points (h .shape)) qs′ vs′ out → WritesBack bs (readAll qs vs bs) qs′ vs′ out
   back qs′ vs′ out room = subst (λ (r : Reading). WritesBack bs r qs′ vs′ out) (sym gives) (made qs′ vs′ out room)
 
 pub written-back : WrittenBack

@@ -41,7 +41,7 @@ module _ {h : Header} (r : Right h) {long : ℕ} {bs : List ℕ} (t : Taken h lo
     abbrev bit : ℕ → ℕ
     bit i = bitOf h long bs k p i
 
-    -- "spare bits are 0"
+    -- spare bits are 0
     spare-bit : (i : ℕ) → i < cellPoints * planeCells (h .shape) k → layerSize (h .shape) k ≤ i → bit i ≡ 0
     unfolding fine fineBits clean
     spare-bit i hi past =

@@ -9,7 +9,8 @@ use lib.IntN.{pos, _+ℤ_, _*ℤ_}
 use lib.ListN.{length, getD}
 use lib.Seq.{ext-getD}
 use Rattle.integers.proofs.Bools.{cond-yes, cond-no}
-use Rattle.digits.specs.Digits.{value, Binary, weight, digitAt, truncate}
+use Rattle.digits.specs.Digits.{value, weight, digitAt}
+use Rattle.digits.proofs.DigitLists.{Binary, truncate}
 use Rattle.digits.proofs.Range.{Holds, range}
 use Rattle.digits.proofs.Value.{length-truncate}
 use Rattle.digits.proofs.Places.{truncate-none, truncate-step}
@@ -48,7 +49,7 @@ module _ (h : Header) (long : ℕ) (bs : List ℕ) where
     unfolding bitAt
     binary-bits = binary-tabulate (planesOf h k) _ (λ p. omega arith)
 
-    -- "Missing digits count as 0"
+    -- missing digits count as 0
     pub coef-is : (plan : ℕ → ℕ) → coefRead h long bs plan k i ≡ value (truncate (planesOf h k - plan k) bits)
     unfolding coefRead
     coef-is plan =
@@ -63,14 +64,14 @@ module _ (h : Header) (long : ℕ) (bs : List ℕ) where
         missing = planesOf h k - plan k
 
         digit : ℕ → ℕ
-        digit p = cond (loaded h long bs plan k p) (bitOf h long bs k p i) 0
+        digit p = cond (loaded h plan k p) (bitOf h long bs k p i) 0
 
         digit-is : (p : ℕ) → p < planesOf h k → digit p ≡ getD (truncate missing bits) p 0
         digit-is p l =
             elim (decLt p missing) [
-              | yes low ↦ cond-no _ _ 0 (loaded-no h long bs plan k p (omega arith)) ∙ sym (missing-below missing bits p low)
+              | yes low ↦ cond-no _ _ 0 (loaded-no h plan k p (omega arith)) ∙ sym (missing-below missing bits p low)
               | no high ↦
-                  cond-yes _ _ 0 (loaded-by h long bs plan k p l (omega arith))
+                  cond-yes _ _ 0 (loaded-by h plan k p l (omega arith))
                   ∙ sym (kept-above missing bits p (omega arith) ∙ bit-at p l)
             ]
 

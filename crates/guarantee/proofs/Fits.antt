@@ -13,7 +13,7 @@ use Rattle.sheet.specs.Limits.{layersMost, stepMost}
 use Rattle.sheet.specs.Lists.{at}
 use Rattle.sheet.specs.Sheet.{accepted, points}
 use Rattle.layers.specs.Layering.{layering, coefs}
-use Rattle.layers.specs.Loops.{Samples}
+use Rattle.layers.specs.Workings.Loops.{Samples}
 use Rattle.sheet.proofs.Lists.{length-tabulate}
 use Rattle.header.specs.Header.{placesMost, cellBytes, headerText}
 use Rattle.header.proofs.Rightness.{Right, few-planes}
@@ -42,7 +42,7 @@ module _ {sh : Shape} {e : ℕ} {qs : List ℤ} (c : Fits sh e qs) (curve : Curv
   pub fits-long : length (cardOf sh curve e qs) ≡ end sh curve e qs + cellBytes * headerFor sh curve e qs .cells
   fits-long = omega (arith, card-length sh (c .shape) qs curve e (c .step), body-length (headerFor sh curve e qs) qs (few-planes fits-right))
 
--- "23 digits .. enough for every accepted sheet"
+-- 23 digits are enough for every sheet that is accepted
 pub samples-fit : {sh : Shape} {e : ℕ} {g : List ℤ} → Samples sh e g → (curve : Curve) → Fits sh e (coefs (layering sh curve) e g)
 samples-fit s curve =
     record {

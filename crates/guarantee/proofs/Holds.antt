@@ -11,14 +11,15 @@ use Rattle.sheet.specs.declared.Shape.{Shape}
 use Rattle.sheet.specs.declared.Curve.{Curve}
 use Rattle.sheet.specs.Sheet.{sheetOf}
 use Rattle.layers.specs.Layering.{layering, coefs}
-use Rattle.layers.specs.Loops.{Samples}
+use Rattle.layers.specs.Workings.Loops.{Samples}
 use Rattle.header.specs.declared.Header.{Header}
 use Rattle.packing.specs.Planes.{headerFor, cardOf}
 use Rattle.card.specs.Writing.{Writing, done}
 use Rattle.card.specs.Reading.{showing}
 use Rattle.planner.specs.Planning.{bestByLimit, figureIn, found, byLimit}
 use Rattle.planner.proofs.Best.{by-limit-best}
-use Rattle.guarantee.specs.Guarantee.{Slices, made, wholeCard, truncated, headEnd, Shown, PlannedWithin, Demand3, Guarantee}
+use Rattle.guarantee.specs.Guarantee.{Slices, made, wholeCard, truncated, headEnd, ShownWithin, PlannedWithin, Demand3, Guarantee}
+use Rattle.guarantee.proofs.Cut.{cut-opens}
 use Rattle.guarantee.proofs.Fits.{end, fits-full, samples-fit}
 use Rattle.guarantee.proofs.Plans.{best-fewest, plans, plans-whole, plan-gives}
 use Rattle.guarantee.proofs.Shows.{shows, shows-gives, shows-figure}
@@ -55,7 +56,7 @@ module _ (g : List ℤ) (sh : Shape) (flat : sh .depth ≡ 1) (curve : Curve) (e
 
   -- ---- what is shown
   shown-by : (n : ℕ) → end sh curve e q ≤ n → n ≤ length card → (qs′ vs′ : List ℤ) → Slices sh qs′ vs′
-      → Shown g sh curve e qs vs out n (showing qs′ vs′ (truncated g sh curve e qs vs out n))
+      → ShownWithin g sh curve e qs vs out n (showing qs′ vs′ (truncated g sh curve e qs vs out n))
   shown-by n behind most qs′ vs′ s =
       rw (whole-is, shows samples curve n behind qs′ vs′ s)
       (record { gives = shows-gives samples curve n behind; figure = rw coefs-are (omega (arith, shows-figure samples curve n behind most)) })
@@ -64,11 +65,13 @@ module _ (g : List ℤ) (sh : Shape) (flat : sh .depth ≡ 1) (curve : Curve) (e
   planned-by : (limit : ℕ) → e ≤ limit → (bs : List ℕ) → byLimit bs limit ≡ found h (bestByLimit h limit) → PlannedWithin g sh curve e qs vs out limit (byLimit bs limit)
   planned-by limit above bs is =
       let b = by-limit-best h (fits-full (samples-fit samples curve) curve) limit above in
+      let meets = leb-true (figureIn h (bestByLimit h limit)) limit (b .meets) in
       record {
         answers = rw is refl;
-        gives = λ qs′ vs′ s.
-            rw (is, whole-is)
-            (plan-gives samples curve (bestByLimit h limit) (b .plan) limit (leb-true (figureIn h (bestByLimit h limit)) limit (b .meets)) qs′ vs′ s);
+        of-card = rw (is, coefs-are) (b .plan);
+        figure = rw (is, coefs-are) refl;
+        within = rw is meets;
+        gives = λ qs′ vs′ s. rw (is, whole-is) (plan-gives samples curve (bestByLimit h limit) (b .plan) limit meets qs′ vs′ s);
         fewest = λ ns p f. rw is (omega (arith, best-fewest b ns (rw coefs-are at p) (rw coefs-are at f)));
         own = rw is refl;
       }
@@ -76,6 +79,7 @@ module _ (g : List ℤ) (sh : Shape) (flat : sh .depth ≡ 1) (curve : Curve) (e
   demand-3 : Demand3 g sh curve e qs vs out
   demand-3 =
       record {
+        opens = λ n l m. rw (whole-is, coefs-are) (cut-opens (samples-fit samples curve) curve n (omega (arith, end-is)));
         shown = λ n l m. shown-by n (omega (arith, end-is)) (omega (arith, long-is));
         planned = λ n l m limit above. rw whole-is (planned-by limit above (take n card) (plans samples curve limit above n (omega (arith, end-is))));
         planned-whole = λ limit above. rw whole-is (planned-by limit above card (plans-whole samples curve limit above));

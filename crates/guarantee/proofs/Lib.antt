@@ -19,5 +19,6 @@ mod Written
 pub mod Again
 pub mod Holds
 pub mod Refined
+pub mod Refused
 pub mod Rows
 pub mod Tables

@@ -15,7 +15,7 @@ use Rattle.sheet.specs.declared.Curve.{Curve}
 use Rattle.sheet.specs.Lists.{at}
 use Rattle.sheet.specs.Sheet.{points, layers, inLayer, layerSize, pointOf, placeIn}
 use Rattle.layers.specs.Layering.{layering, coefs}
-use Rattle.layers.specs.Loops.{Samples}
+use Rattle.layers.specs.Workings.Loops.{Samples}
 use Rattle.sheet.proofs.Places.{place-in, point-in, point-on, point-place}
 use Rattle.layers.proofs.Standing.{sheet-samples}
 use Rattle.header.specs.declared.Header.{Header}

@@ -13,14 +13,15 @@ use Rattle.integers.proofs.Near.{near-le}
 use Rattle.sheet.specs.declared.Shape.{Shape}
 use Rattle.sheet.specs.declared.Curve.{Curve}
 use Rattle.layers.specs.Layering.{layering, coefs}
-use Rattle.layers.specs.Loops.{Samples}
+use Rattle.layers.specs.Workings.Loops.{Samples}
 use Rattle.header.specs.declared.Header.{Header}
 use Rattle.header.specs.declared.Plan.{Plan}
 use Rattle.header.specs.Header.{cellBytes}
 use Rattle.order.proofs.Whole.{whole-right}
 use Rattle.packing.specs.Planes.{headerFor, cardOf}
 use Rattle.card.specs.Reading.{reading}
-use Rattle.planner.specs.Planning.{Best, PlanOf, withinLimit, better, betterByLimit, bestByLimit, cellsIn, figureIn, found, byLimit}
+use Rattle.planner.specs.Planning.{PlanOf, withinLimit, better, betterByLimit, bestByLimit, cellsIn, figureIn, found, byLimit}
+use Rattle.planner.proofs.Best.{Best}
 use Rattle.guarantee.specs.Guarantee.{Slices, Gives}
 use Rattle.guarantee.proofs.Cut.{cut-opens}
 use Rattle.guarantee.proofs.Fits.{end, fits-right, fits-long, samples-fit}

@@ -1,4 +1,4 @@
--- Demand 2, second half, by induction on the list: each refinement leaves what reading with some plan that it takes leaves, and reading with that plan answers by the card alone, whatever stood in its slices.
+-- Demand 2, its third sentence, by induction on the list: each refinement leaves what reading with some plan that it takes leaves, and reading with that plan answers by the card alone, whatever stood in its slices.
 use mathlib.Core.List.{List, [], _∷_}
 use mathlib.Core.Path.{_≡_, sym, ap, _∙_, subst}
 use Prim.Native.Nat.{ℕ}

@@ -1,4 +1,4 @@
--- Document 01's bench rows, gathered: what the calls come to is computed. Digits and roundings stand among the worked examples of their crates.
+-- The worked rows, gathered: what the calls come to is computed. Digits and roundings stand among the worked examples of their crates.
 use mathlib.Core.Path.{refl}
 use lib.ListN.{take}
 use Rattle.integers.specs.Floor.{floorDiv, ceilDiv}
@@ -16,7 +16,7 @@ use Rattle.order.specs.CardOrder.{cellsBefore, isWhole, whole}
 use Rattle.figure.specs.Figure.{figureOf}
 use Rattle.packing.specs.Planes.{allBelow}
 use Rattle.loading.specs.InBytes.{bitAt, clean, hasOne, fineBits, fine, badSlot, firstBad, coefRead, coefsRead}
-use Rattle.planner.specs.Planning.{withUpTo, eachUpTo, listsUpTo, plansOf, before, better, bestOf, bestByLimit, bestByCells}
+use Rattle.planner.specs.Planning.{withUpTo, eachUpTo, listsUpTo, plansOf, winsTie, better, bestOf, bestByLimit, bestByCells}
 use Rattle.guarantee.specs.Bench.{card, Bench}
 use Rattle.guarantee.proofs.RowsOpened.{openings}
 use Rattle.guarantee.proofs.RowsCalls as C
@@ -25,7 +25,7 @@ pub bench : Bench
 unfolding
     coefs written alongside rebuilt valuesBy layerBy tabulate pointBy predictedAt line linear coefficientOf rebuiltFrom floorDiv width
     firstOver firstFrom whole isWhole cellsBefore firstBad badSlot fine fineBits clean hasOne bitAt allBelow coefsRead coefRead value lastIn placeIn
-    bestByLimit bestByCells bestOf better before plansOf listsUpTo eachUpTo withUpTo
+    bestByLimit bestByCells bestOf better winsTie plansOf listsUpTo eachUpTo withUpTo
     figureOf standing carried loss cellsOf total planeCells ceilDiv layerSize count inLayer directions spacing asciiFrom
 bench =
     record {
@@ -42,10 +42,10 @@ bench =
       limit1 = C.by-limit 1;
       limit0 = C.by-limit 0;
       cells5 = C.by-cells 5;
-      minusOne = record { count = E.minus-one .count; digits = E.minus-one .digits };
-      two = record { count = E.two .count; digits = E.two .digits };
-      five = record { count = E.five .count; digits = E.five .digits };
-      ten = record { count = E.ten .count; digits = E.ten .digits };
+      minusOne = record { count = E.minus-one .count; digits = E.minus-one .digits; worth = E.minus-one .makes };
+      two = record { count = E.two .count; digits = E.two .digits; worth = E.two .makes };
+      five = record { count = E.five .count; digits = E.five .digits; worth = E.five .makes };
+      ten = record { count = E.ten .count; digits = E.ten .digits; worth = E.ten .makes };
       rounding = cubic-down;
       carrying = carried-twice;
     }

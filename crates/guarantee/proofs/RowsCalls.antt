@@ -12,10 +12,10 @@ use Rattle.integers.specs.Floor.{floorDiv, ceilDiv}
 use Rattle.digits.specs.Digits.{evens, odds, lowest, higher, digitAt, holds, firstFrom}
 use Rattle.sheet.specs.declared.Curve.the-variants.{Linear}
 use Rattle.sheet.specs.Lists.{tabulate, count, nth, total}
-use Rattle.sheet.specs.Sheet.{layerCount, spacing, inLayer, layerSize, pointOf, directions}
-use Rattle.layers.specs.Calls.{full, inRange, goodPrefix, scanned}
+use Rattle.sheet.specs.Sheet.{spacing, inLayer, layerSize, pointOf, directions}
+use Rattle.layers.specs.Samples.{full, inRange, goodPrefix, scanned}
 use Rattle.layers.proofs.Worked.{bench-coefs}
-use Rattle.text.specs.Decimal.{digitsIn, digits}
+use Rattle.text.specs.Decimal.{digitsIn, decimal}
 use Rattle.text.specs.Line.{lineText}
 use Rattle.text.specs.Joined.{joined}
 use Rattle.header.specs.Refusals.{refusal}
@@ -24,8 +24,8 @@ use Rattle.header.specs.Plan.{loads}
 use Rattle.header.specs.Opening.{opening}
 use Rattle.header.proofs.Over.{none-over}
 use Rattle.header.proofs.Worked.{benchHeader}
-use Rattle.order.specs.CardOrder.{wholeOf}
-use Rattle.packing.specs.Planes.{allBelow, packed, planeBit, planeBytes, atPlace, downFrom, body, enough, planesFor, countsFor, cardOf}
+use Rattle.order.specs.CardOrder.{atPlace, downFrom, wholeOf}
+use Rattle.packing.specs.Planes.{allBelow, packed, planeBit, planeBytes, body, enough, planesFor, countsFor, cardOf}
 use Rattle.card.specs.Writing.{outputLeast, badSizes, done, writing}
 use Rattle.loading.specs.InBytes.{firstBad}
 use Rattle.card.specs.Reading.{Reading, readWhole, readOpened, showing}
@@ -37,10 +37,10 @@ use Rattle.guarantee.specs.Bench.{shape, samples, coefficients, card, Fi
 use Rattle.guarantee.proofs.RowsOpened.{opened, openings}
 
 -- ---- writing
--- "planes=5,1,0, cells=6", and the six planes
+-- the counts 5,1,0 and the six planes
 card-is : cardOf shape Linear 1 coefficients ≡ card
 unfolding
-    cardOf headerText lineText digits digitsIn joined layerCount asciiFrom countsFor planesFor enough allBelow firstFrom holds evens odds
+    cardOf headerText lineText decimal digitsIn joined asciiFrom countsFor planesFor enough allBelow firstFrom holds evens odds
     body downFrom atPlace planeBytes planeBit packed digitAt lowest higher floorDiv pointOf nth
     tabulate planeCells ceilDiv layerSize count inLayer directions spacing cellsOf total
 card-is = refl
@@ -75,12 +75,12 @@ module _ (qs vs : List ℤ) where
       → (showing qs vs bs .plan ≡ wholeRead bs .plan) × (showing qs vs bs .figure ≡ wholeRead bs .figure)
   shows five bs o = (ap (λ (r : Reading). r .plan) (shown five bs o), ap (λ (r : Reading). r .figure) (shown five bs o))
 
-  pub cut : showing qs vs (take 63 card) ≡ R.no qs vs (refusal 5 0 0)
+  pub cut : showing qs vs (take 63 card) ≡ R.notRead qs vs (refusal 5 0 0)
   unfolding showing
   cut = rw (openings .at63)
 
 -- ---- planning
-pub by-limit : (limit : ℕ) → byLimit card limit ≡ cond (ltb limit 1) (N.no (refusal 10 0 0)) (found benchHeader (bestByLimit benchHeader limit))
+pub by-limit : (limit : ℕ) → byLimit card limit ≡ cond (ltb limit 1) (N.notPlanned (refusal 10 0 0)) (found benchHeader (bestByLimit benchHeader limit))
 unfolding byLimit
 by-limit limit = rw (openings .whole)
 

@@ -1,4 +1,4 @@
--- The bench card as it opens, by computation: whole, and truncated at each byte that document 01's rows name.
+-- The bench card as it opens, by computation: whole, and truncated at each byte that the worked rows name.
 use mathlib.Core.Path.{_≡_, refl}
 use lib.ListN.{take}
 use Rattle.integers.specs.Floor.{ceilDiv}
@@ -6,11 +6,11 @@ use Rattle.sheet.specs.Lists.{tabulate, count, total}
 use Rattle.sheet.specs.Sheet.{spacing, inLayer, layerSize, directions}
 use Rattle.text.specs.Decimal.{pushed, more, upTo, parsed}
 use Rattle.text.specs.Text.{padded}
-use Rattle.text.specs.Line.{before, starts, hasEnd, lineAt}
+use Rattle.text.specs.Line.{indexOf, starts, hasEnd, lineAt}
 use Rattle.text.specs.Joined.{numbersIn}
 use Rattle.header.specs.Refusals.{refusal}
 use Rattle.header.specs.Header.{planeCells, cellsOf, asciiFrom}
-use Rattle.header.specs.Opening.{Opening, no, curveLine, planesMost, limits, openingCells, openingPlanes, openingStep, openingCurve, openingLevels, openingCols, opening}
+use Rattle.header.specs.Opening.{Opening, notOpened, curveLine, planesMost, limits, openingCells, openingPlanes, openingStep, openingCurve, openingLevels, openingCols, opening}
 use Rattle.header.proofs.HeaderLines.{accepting}
 use Rattle.header.proofs.Worked.{benchHeader}
 use Rattle.guarantee.specs.Bench.{card}
@@ -24,10 +24,10 @@ pub record Openings : Type 0 where
   pub at160 : opening (take 160 card) ≡ opened
   pub at159 : opening (take 159 card) ≡ opened
   pub at64 : opening (take 64 card) ≡ opened
-  pub at63 : opening (take 63 card) ≡ no (refusal 5 0 0)
+  pub at63 : opening (take 63 card) ≡ notOpened (refusal 5 0 0)
 
 pub openings : Openings
 unfolding
-    opening openingCols openingLevels openingCurve openingStep openingPlanes openingCells lineAt curveLine before starts hasEnd parsed upTo more pushed numbersIn limits tabulate planesMost padded
+    opening openingCols openingLevels openingCurve openingStep openingPlanes openingCells lineAt curveLine indexOf starts hasEnd parsed upTo more pushed numbersIn limits tabulate planesMost padded
     layerSize count inLayer directions spacing cellsOf total planeCells ceilDiv asciiFrom
 openings = record { whole = refl; at160 = refl; at159 = refl; at64 = refl; at63 = refl }

@@ -54,7 +54,7 @@ module _ (h : Header) (long : ℕ) (bs : List ℕ) where
     Kept new = Reached (keep new (readAs h long bs plan))
 
     -- a refused one leaves what was there
-    refused : (d : Details) → (d .number ≡ 0 → ⊥) → Kept (R.no coefficients (rebuild coefficients) d)
+    refused : (d : Details) → (d .number ≡ 0 → ⊥) → Kept (R.notRead coefficients (rebuild coefficients) d)
     refused d n = rw (ne-eqb (d .number) 0 n) (record { plan = plan; places = places; taken = t; same = refl })
 
     -- one that is taken adds the digits that reading with one plane more reads

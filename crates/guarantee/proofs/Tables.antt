@@ -1,7 +1,6 @@
--- Request 2: the table's law by its entries, and reading's by the word of each point, whose 23 bits are three groups.
-use mathlib.Core.Path.{sym, ap, _∙_}
+-- The table of groups: the table's law by its entries, and reading's by the word of each point, whose 23 bits are three groups.
+use mathlib.Core.Path.{sym, _∙_}
 use native.Mathlib.Omega.{arith}
-use lib.IntN.{negℤ}
 use Rattle.digits.proofs.Groups.{entry-is, entry-sum, by-groups}
 use Rattle.header.proofs.Rightness.{right-yes, few-planes}
 use Rattle.loading.specs.InBytes.{wordRead}
@@ -12,7 +11,7 @@ pub groups : Groups
 groups =
     record {
       entries = entry-is;
-      sums = λ g l. (entry-sum g l, ap negℤ (entry-sum g l));
+      sums = entry-sum;
       coefficients = λ h long bs plan r k i l.
           sym (number-read h long bs plan k i (few-planes (right-yes h r) k l))
           ∙ sym (by-groups (wordRead h long bs plan k i) (omega (arith, word-small h long bs plan k i)));

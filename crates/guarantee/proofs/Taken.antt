@@ -18,17 +18,17 @@ use Rattle.header.specs.declared.Plan.{Plan}
 use Rattle.header.specs.Header.{planesOf}
 use Rattle.header.specs.Plan.{loads, firstOver}
 use Rattle.header.specs.Opening.{Opening, opening}
-use Rattle.order.specs.CardOrder.{whole, wholePlan, wholeOf}
+use Rattle.order.specs.CardOrder.{slotLayer, slotPlace, slots, whole, wholePlan, wholeOf}
+use Rattle.order.specs.Workings.{slotNo}
 use Rattle.header.proofs.HeaderLines.{accepting, lines-of, opening-of}
 use Rattle.header.proofs.Opens.{Opens, opened-right}
 use Rattle.header.proofs.Over.{none-over}
 use Rattle.header.proofs.Rightness.{Right, right-yes, few-planes}
-use Rattle.loading.specs.InBytes.{fine, loaded, slotLayer, slotPlace, badSlot, slots, firstBad}
+use Rattle.loading.specs.InBytes.{fine, loaded, badSlot, firstBad}
 use Rattle.card.specs.Reading.{firstRefusal, readOpened, reading}
 use Rattle.loading.proofs.Loads.{within}
 use Rattle.card.proofs.ReadCall.{readAs, lengths-good, good-lengths, checked-none, checked-passes}
-use Rattle.loading.specs.Words.{slotNo}
-use Rattle.loading.proofs.SlotOrder.{slot-is, slot-last}
+use Rattle.order.proofs.Slots.{slot-is, slot-last}
 use Rattle.loading.proofs.LayerPlanes.{whole-at, loaded-yes, loaded-by}
 use Rattle.guarantee.specs.Guarantee.{Slices}
 
@@ -69,15 +69,15 @@ module _ (h : Header) (long : ℕ) (bs : List ℕ) where
     bad = firstBad h long bs (loads plan)
 
     abbrev all : ℕ
-    all = slots h long bs (loads plan)
+    all = slots h
 
     slot-good : AllFine plan → (t : ℕ) → badSlot h long bs (loads plan) t ≡ false
     unfolding badSlot
     slot-good f t =
-        let k = slotLayer h long bs (loads plan) t in
-        let p = slotPlace h long bs (loads plan) t in
-        by (loaded h long bs (loads plan) k p)
-        (λ e. let l = loaded-yes h long bs (loads plan) k p e in rw (e, f k p (mod-lt t (omega arith)) (l .0) (l .1)))
+        let k = slotLayer h t in
+        let p = slotPlace h t in
+        by (loaded h (loads plan) k p)
+        (λ e. let l = loaded-yes h (loads plan) k p e in rw (e, f k p (mod-lt t (omega arith)) (l .0) (l .1)))
         (λ e. rw e)
 
     fine-passes : AllFine plan → ltb bad all ≡ false
@@ -90,10 +90,10 @@ module _ (h : Header) (long : ℕ) (bs : List ℕ) where
         let t = slotNo h k p in
         let own = slot-is h k p hk (omega (arith, few-planes r k hk)) in
         let last : t < all = slot-last h k p hk in
-        let good : loaded h long bs (loads plan) k p && not (fine h long bs k p) ≡ false =
-        ap₂ (λ (x y : ℕ). loaded h long bs (loads plan) x y && not (fine h long bs x y)) (own .0) (own .1)
+        let good : loaded h (loads plan) k p && not (fine h long bs k p) ≡ false =
+        ap₂ (λ (x y : ℕ). loaded h (loads plan) x y && not (fine h long bs x y)) (own .0) (own .1)
         ∙ first-least (badSlot h long bs (loads plan)) all 0 t (omega arith) (omega (arith, ltb-false bad all e)) in
-        not-false (fine h long bs k p) (rw (loaded-by h long bs (loads plan) k p named asked) at good)
+        not-false (fine h long bs k p) (rw (loaded-by h (loads plan) k p named asked) at good)
 
 -- ---- ALL IS WELL
 pub record Passed (h : Header) (long : ℕ) (bs : List ℕ) (plan : Plan) (qs vs : List ℤ) : Type 0 where

@@ -16,13 +16,13 @@ use Rattle.layers.specs.declared.Scan.the-variants.{Clear, OutAt}
 use Rattle.sheet.specs.Limits.{levelsMost, stepMost}
 use Rattle.sheet.specs.Sheet.{points}
 use Rattle.layers.specs.Layering.{layering, coefs}
-use Rattle.layers.specs.Calls.{full, scanned}
-use Rattle.layers.specs.Loops.{Samples}
+use Rattle.layers.specs.Samples.{full, scanned}
+use Rattle.layers.specs.Workings.Loops.{Samples}
 use Rattle.sheet.proofs.Accepting.{sized-by, accepted-yes}
 use Rattle.sheet.proofs.Fits.{sheet-small}
 use Rattle.layers.proofs.Answers.{clear-within, scans-clear, full-long}
 use Rattle.packing.specs.Planes.{cardOf}
-use Rattle.card.specs.Writing.{outputLeast, badSizes, badSettings, goodLengths, afterScan, done, writing}
+use Rattle.card.specs.Writing.{outputLeast, badSizes, badSettings, roomToWrite, afterScan, done, writing}
 use Rattle.card.proofs.BadSizes.{bad-sizes}
 use Rattle.card.proofs.Writes.{good-settings, good-lengths, shape-accepted}
 use Rattle.guarantee.specs.WrittenBack.{Room}
@@ -35,7 +35,7 @@ module _ (g : List ℤ) (sh : Shape) (curve : Curve) (e : ℕ) (qs vs : List ℤ
   pub record Passes : Type 0 where
     pub sizes : badSizes (sh .rows) (sh .cols) ≡ false
     pub settings : badSettings g sh curve e qs vs out ≡ false
-    pub lengths : goodLengths g sh curve e qs vs out ≡ true
+    pub lengths : roomToWrite g sh curve e qs vs out ≡ true
     pub clear : scanned (sh .cols) g ≡ Clear
 
   -- the card of the samples
@@ -54,7 +54,7 @@ module _ (g : List ℤ) (sh : Shape) (curve : Curve) (e : ℕ) (qs vs : List ℤ
       (λ y. absurd (one-none (rw y at zero)))
       (λ sizes. by (badSettings g sh curve e qs vs out)
       (λ y. absurd (one-none (rw (sizes, y) at zero)))
-      (λ settings. by (goodLengths g sh curve e qs vs out)
+      (λ settings. by (roomToWrite g sh curve e qs vs out)
       (λ lengths. record { sizes = sizes; settings = settings; lengths = lengths; clear = after-clear _ (rw (sizes, settings, lengths) at zero) })
       (λ y. absurd (one-none (rw (sizes, settings, y) at zero)))))
 

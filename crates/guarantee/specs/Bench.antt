@@ -1,10 +1,10 @@
--- The rows of document 01's "Worked on the bench" that are marked P.
+-- Worked examples (docs/CARD.md, "Worked examples"), proved: the bench card; of the others some digits, one cubic prediction and the carries.
 use mathlib.Core.List.{List, [], _∷_, _++_}
 use mathlib.Core.Path.{_≡_}
 use Prim.Native.Nat.{ℕ, _-_, _≤_}
 use lib.IntN.{ℤ, pos, negsuc}
 use lib.ListN.{length, replicate, take, drop}
-use Rattle.digits.specs.Digits.{digitsOf, fewest}
+use Rattle.digits.specs.Digits.{value, digitsOf, fewest}
 use Rattle.sheet.specs.declared.Shape.{Shape}
 use Rattle.sheet.specs.declared.Curve.the-variants.{Linear, Cubic}
 use Rattle.sheet.specs.Limits.{layersMost}
@@ -21,21 +21,21 @@ use Rattle.card.specs.Reading as R
 use Rattle.planner.specs.Planning.{Planning, byLimit, byCells, cellsIn, figureIn}
 use Rattle.planner.specs.Planning as N
 
--- "1 by 5, L 1, linear, e 1, readings 10 13 11 20 30"
+-- one row of five samples, one level, linear, step 1
 abbrev pub shape : Shape
 shape = sheetOf 1 5 1
 
 abbrev pub samples : List ℤ
 samples = pos 10 ∷ pos 13 ∷ pos 11 ∷ pos 20 ∷ pos 30 ∷ []
 
--- "coefficients 3 4 10 (anchors) and 1 0; rebuilt 9 13 12 21 30", each at its point's place
+-- coefficients 3 4 10 of the anchors and 1 0 of layer 1, each at its point's place; the values that they rebuild
 abbrev pub coefficients : List ℤ
 coefficients = pos 3 ∷ pos 1 ∷ pos 4 ∷ pos 0 ∷ pos 10 ∷ []
 
 abbrev pub values : List ℤ
 values = pos 9 ∷ pos 13 ∷ pos 12 ∷ pos 21 ∷ pos 30 ∷ []
 
--- "planes=5,1,0, cells=6"; "first bytes of its planes 4 4 7 5 1 1", a cell each
+-- the header, and the first bytes of its planes, a cell each
 abbrev pub text : List ℕ
 text = ascii "rows=1\ncols=5\nlevels=1\ncurve=linear\nstep=1\nplanes=5,1,0\ncells=6\n"
 
@@ -46,8 +46,8 @@ abbrev pub card : List ℕ
 card = text ++ (cell 4 ++ (cell 4 ++ (cell 7 ++ (cell 5 ++ (cell 1 ++ cell 1)))))
 
 -- the plan that loads a, b and c planes of the three layers
-abbrev pub planOf : ℕ → ℕ → ℕ → Plan
-planOf a b c = record { planes = a ∷ b ∷ c ∷ replicate (layersMost - 3) 0 }
+abbrev pub threeLayers : ℕ → ℕ → ℕ → Plan
+threeLayers a b c = record { planes = a ∷ b ∷ c ∷ replicate (layersMost - 3) 0 }
 
 -- slices of five numbers
 pub record Five (qs vs : List ℤ) : Type 0 where
@@ -58,46 +58,47 @@ pub record Five (qs vs : List ℤ) : Type 0 where
 abbrev pub answer : Plan → ℕ → ℕ → Planning
 answer plan cells figure = record { refused = refusal 0 0 0; plan = plan; cells = cells; figure = figure }
 
--- a number's digits, highest first in document 01 and lowest first here, and no fewer do
+-- a number's digits, highest first in docs/CARD.md and lowest first here: no fewer do, and their value is the number
 pub record Spelt (q : ℤ) (ds : List ℕ) : Type 0 where
   pub count : fewest q ≡ length ds
   pub digits : digitsOf (length ds) q ≡ ds
+  pub worth : value ds ≡ q
 
 pub record Bench : Type 0 where
-  -- "coefficients ..; rebuilt ..; header 64 bytes, card 256"
+  -- written: the header has 64 bytes and the card 256
   pub written : (qs vs : List ℤ) (out : List ℕ) → Five qs vs → outputLeast ≤ length out
       → writing samples shape Linear 1 qs vs out
       ≡ record { refused = refusal 0 0 0; long = 256; coefficients = coefficients; values = values; output = card ++ drop 256 out }
   pub header : length text ≡ 64
   pub long : length card ≡ 256
-  -- "its first 160 bytes: planes 3,0,0, values 12 12 12 24 36, figure 10": 12, 12 and 36 are three times the coefficients 4, 4 and 12
+  -- pulled at byte 160: 12, 12 and 36 are three times the coefficients 4, 4 and 12
   pub at160 : (qs vs : List ℤ) → Five qs vs
       → showing qs vs (take 160 card)
       ≡ record {
         refused = refusal 0 0 0;
-        plan = planOf 3 0 0;
+        plan = threeLayers 3 0 0;
         figure = 10;
         coefficients = pos 4 ∷ pos 0 ∷ pos 4 ∷ pos 0 ∷ pos 12 ∷ [];
         values = pos 12 ∷ pos 12 ∷ pos 12 ∷ pos 24 ∷ pos 36 ∷ [];
       }
-  -- "159 bytes: 2,0,0, figure 19"
-  pub at159 : (qs vs : List ℤ) → Five qs vs → (showing qs vs (take 159 card) .plan ≡ planOf 2 0 0) × (showing qs vs (take 159 card) .figure ≡ 19)
-  -- "64 bytes: no planes, figure 67"
-  pub at64 : (qs vs : List ℤ) → Five qs vs → (showing qs vs (take 64 card) .plan ≡ planOf 0 0 0) × (showing qs vs (take 64 card) .figure ≡ 67)
-  -- "63 bytes: refusal 5"
-  pub at63 : (qs vs : List ℤ) → showing qs vs (take 63 card) ≡ R.no qs vs (refusal 5 0 0)
-  -- "limit 10: 3,0,0 in 3 cells. Limit 9: 4,0,0 in 4 cells, figure 7 (3,1,0 ties). Limit 1: all 6 cells. Limit 0: refusal 10. 5 cells: 5,0,0, figure 4"
-  pub limit10 : byLimit card 10 ≡ answer (planOf 3 0 0) 3 10
-  pub limit9 : byLimit card 9 ≡ answer (planOf 4 0 0) 4 7
-  pub ties : (cellsIn (opening card .header) (planOf 3 1 0 .planes) ≡ 4) × (figureIn (opening card .header) (planOf 3 1 0 .planes) ≡ 7)
-  pub limit1 : byLimit card 1 ≡ answer (planOf 5 1 0) 6 1
-  pub limit0 : byLimit card 0 ≡ N.no (refusal 10 0 0)
-  pub cells5 : byCells card 5 ≡ answer (planOf 5 0 0) 5 4
-  -- "digits, highest first: -1 is 11, 2 is 110, 5 is 101, 10 is 11110"
+  -- at byte 159 the third plane is not whole
+  pub at159 : (qs vs : List ℤ) → Five qs vs → (showing qs vs (take 159 card) .plan ≡ threeLayers 2 0 0) × (showing qs vs (take 159 card) .figure ≡ 19)
+  -- at byte 64 there are no planes
+  pub at64 : (qs vs : List ℤ) → Five qs vs → (showing qs vs (take 64 card) .plan ≡ threeLayers 0 0 0) × (showing qs vs (take 64 card) .figure ≡ 67)
+  -- at byte 63 the header is cut
+  pub at63 : (qs vs : List ℤ) → showing qs vs (take 63 card) ≡ R.notRead qs vs (refusal 5 0 0)
+  -- planned by limit and by cells; 3,1,0 has the cells and the figure of 4,0,0
+  pub limit10 : byLimit card 10 ≡ answer (threeLayers 3 0 0) 3 10
+  pub limit9 : byLimit card 9 ≡ answer (threeLayers 4 0 0) 4 7
+  pub ties : (cellsIn (opening card .header) (threeLayers 3 1 0 .planes) ≡ 4) × (figureIn (opening card .header) (threeLayers 3 1 0 .planes) ≡ 7)
+  pub limit1 : byLimit card 1 ≡ answer (threeLayers 5 1 0) 6 1
+  pub limit0 : byLimit card 0 ≡ N.notPlanned (refusal 10 0 0)
+  pub cells5 : byCells card 5 ≡ answer (threeLayers 5 0 0) 5 4
+  -- digits
   pub minusOne : Spelt (negsuc 0) (1 ∷ 1 ∷ [])
   pub two : Spelt (pos 2) (0 ∷ 1 ∷ 1 ∷ [])
   pub five : Spelt (pos 5) (1 ∷ 0 ∷ 1 ∷ [])
   pub ten : Spelt (pos 10) (0 ∷ 1 ∷ 1 ∷ 1 ∷ 1 ∷ [])
-  -- "Cubic of 0, -1, 0, 0 is -1. Carried cubically, 4 becomes 5, then 7."
+  -- the cubic of 0, -1, 0 and 0 is -1; carried cubically, 4 becomes 5, and 5 becomes 7
   pub rounding : cubic (pos 0) (negsuc 0) (pos 0) (pos 0) ≡ negsuc 0
   pub carrying : (carried Cubic 4 ≡ 5) × (carried Cubic 5 ≡ 7)

@@ -1,5 +1,4 @@
--- Demand 3, sentence by sentence, over the definitions that the contracts of write, show, read and plan_by_limit cite. What is quoted here is demand 3's
--- own words.
+-- Demand 3 (docs/CARD.md, "The three demands"), clause by clause, over the definitions that the contracts of write, show, read and plan_by_limit cite.
 use mathlib.Core.List.{List}
 use mathlib.Core.Path.{_≡_}
 use Prim.Native.Nat.{ℕ, _+_, _*_, _-_, _<_, _≤_}
@@ -14,29 +13,31 @@ use Rattle.sheet.specs.Sheet.{sheetOf, points, layers}
 use Rattle.layers.specs.Prediction.{width}
 use Rattle.layers.specs.Carry.{standing}
 use Rattle.header.specs.declared.Header.{Header}
+use Rattle.header.specs.Refusals.{refusal}
 use Rattle.header.specs.Header.{headerText, planesOf}
+use Rattle.header.specs.Opening.{opening}
 use Rattle.order.specs.CardOrder.{whole}
 use Rattle.packing.specs.Planes.{headerFor}
 use Rattle.card.specs.Writing.{Writing, writing}
 use Rattle.card.specs.Reading.{Reading, reading, showing}
 use Rattle.planner.specs.Planning.{Planning, PlanOf, cellsIn, figureIn, byLimit}
 
--- "in slices as long as document 01 asks"
+-- slices as long as reading asks
 pub record Slices (sh : Shape) (qs vs : List ℤ) : Type 0 where
   pub coefficients : length qs ≡ points sh
   pub values : length vs ≡ points sh
 
--- "is not refused, and no value .. differs from g at its point by more than" m
+-- a reading is not refused, and none of its values is further from its sample than m
 pub record Gives (sh : Shape) (g : List ℤ) (m : ℕ) (r : Reading) : Type 0 where
   pub taken : r .refused .number ≡ 0
   pub near : (p : ℕ) → p < points sh → Near m (at g p) (at (r .values) p)
 
--- "Let g be any sheet that the writer accepts with step e, whatever its levels and curve": written into slices that held qs, vs and out
+-- the samples g, written with their shape, curve and step into slices that held qs, vs and out
 module _ (g : List ℤ) (sh : Shape) (curve : Curve) (e : ℕ) (qs vs : List ℤ) (out : List ℕ) where
   abbrev pub made : Writing
   made = writing g sh curve e qs vs out
 
-  -- "let a pulled card hold the first n bytes written"
+  -- the card, and what is left of it where it is pulled at byte n
   abbrev pub wholeCard : List ℕ
   wholeCard = take (made .long) (made .output)
 
@@ -50,37 +51,43 @@ module _ (g : List ℤ) (sh : Shape) (curve : Curve) (e : ℕ) (qs vs : List ℤ
   abbrev pub headEnd : ℕ
   headEnd = length (headerText head)
 
-  -- "That figure is e plus the losses of the missing planes, carried through the layers as document 01 says": of layer k those are the planes
-  -- it has less the ones that are whole in n bytes
+  -- the planes of layer k that are missing: those it has less the ones that are whole in n bytes
   abbrev pub missing : ℕ → ℕ → ℕ
   missing n k = planesOf head k - whole head (n - headEnd) k
 
-  pub record Shown (n : ℕ) (r : Reading) : Type 0 where
-    -- "showing it .. is not refused, and no value shown differs from g at its point by more than the figure shown"
+  pub record ShownWithin (n : ℕ) (r : Reading) : Type 0 where
+    -- showing it is not refused, and no value shown is further from its sample than the figure shown,
     pub gives : Gives sh g (r .figure) r
+    -- which is e and the carried losses of the planes that are missing
     pub figure : r .figure ≡ e + standing sh curve (λ k. loss (missing n k) * width e) (layers sh)
 
   -- what the planner answers to the limit E
   pub record PlannedWithin (limit : ℕ) (a : Planning) : Type 0 where
-    -- "answers with a plan"
+    -- a plan is answered,
     pub answers : a .refused .number ≡ 0
-    -- "Reading the whole card with this plan, in such slices, is not refused and gives no value that differs from g at its point by more than E."
+    -- one of the card's, and its figure, the one answered, is at most E;
+    pub of-card : PlanOf head (a .plan .planes)
+    pub figure : a .figure ≡ figureIn head (a .plan .planes)
+    pub within : a .figure ≤ limit
+    -- reading the whole card with it is not refused, and no value is further from its sample than E;
     pub gives : (qs′ vs′ : List ℤ) → Slices sh qs′ vs′ → Gives sh g limit (reading qs′ vs′ wholeCard (a .plan))
-    -- "Every other plan of the card whose figure is within E has at least as many cells as this one,
+    -- and every other plan of the card whose figure is at most E has at least as many cells,
     pub fewest : (ns : List ℕ) → PlanOf head ns → figureIn head ns ≤ limit → a .cells ≤ cellsIn head ns
-    -- whose cells are those the planner answered."
+    -- of which those answered are its own
     pub own : a .cells ≡ cellsIn head (a .plan .planes)
 
   pub record Demand3 : Type 0 where
-    -- "whichever byte it was pulled at from the header's end on"
+    -- the pulled card opens, to the header that was written
+    pub opens : (n : ℕ) → headEnd ≤ n → n ≤ made .long → opening (truncated n) ≡ record { refused = refusal 0 0 0; header = head; long = headEnd }
+    -- pulled at any byte from the header's end on
     pub shown : (n : ℕ) → headEnd ≤ n → n ≤ made .long
-        → (qs′ vs′ : List ℤ) → Slices sh qs′ vs′ → Shown n (showing qs′ vs′ (truncated n))
-    -- "And for every limit E not below e, the planner, given the pulled card
+        → (qs′ vs′ : List ℤ) → Slices sh qs′ vs′ → ShownWithin n (showing qs′ vs′ (truncated n))
+    -- for every limit that is not below e, planning is given the pulled card
     pub planned : (n : ℕ) → headEnd ≤ n → n ≤ made .long → (limit : ℕ) → e ≤ limit → PlannedWithin limit (byLimit (truncated n) limit)
-    -- or the whole one"
+    -- or the whole one
     pub planned-whole : (limit : ℕ) → e ≤ limit → PlannedWithin limit (byLimit wholeCard limit)
 
--- "any sheet that the writer accepts"
+-- for any sheet that writing accepts
 pub record Guarantee : Type 0 where
   pub demand : (g : List ℤ) (rows cols levels : ℕ) (curve : Curve) (e : ℕ) (qs vs : List ℤ) (out : List ℕ)
       → (let sh = sheetOf rows cols levels in made g sh curve e qs vs out .refused .number ≡ 0 → Demand3 g sh curve e qs vs out)

@@ -1,3 +1,4 @@
+pub mod Unchanged
 pub mod WrittenBack
 pub mod Refinements
 pub mod Guarantee

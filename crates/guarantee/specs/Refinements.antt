@@ -1,5 +1,5 @@
--- Demand 2, its second half, in its own words: "For every list of refinements of one card after a reading of no planes, refused ones among them, the values after it
--- are those of one reading with the planes it has reached."
+-- Demand 2, its third sentence (docs/CARD.md, "The three demands"): after any list of refinements, refused ones among them, that begins with a reading of no
+-- planes, the values are those of one reading with the planes reached.
 use mathlib.Core.Bool.{cond}
 use mathlib.Core.List.{List, [], _∷_}
 use mathlib.Core.Path.{_≡_}
@@ -11,7 +11,7 @@ use Rattle.header.specs.Plan.{noPlan}
 use Rattle.card.specs.Reading.{Reading, reading}
 use Rattle.card.specs.Refining.{refining}
 
--- "each call takes the plan and the slices that the last accepted call left" (document 01): a refused call leaves what was there
+-- each call takes what the last accepted one left: a refused one leaves what was there
 abbrev pub keep : Reading → Reading → Reading
 keep new old = cond (eqb (new .refused .number) 0) new old
 

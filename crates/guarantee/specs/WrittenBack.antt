@@ -1,5 +1,5 @@
--- Demand 2, its first half: "A whole card that reading accepts with all its planes, and whose values lie in the reading range, is written back
--- with the same bytes." What is quoted here is demand 2's own words.
+-- Demand 2, its second sentence (docs/CARD.md, "The three demands"): a whole card that reading accepts with all its planes, and whose values are in the range of
+-- samples, is written back byte for byte.
 use mathlib.Core.List.{List, _++_}
 use mathlib.Core.Path.{_≡_}
 use Prim.Native.Nat.{ℕ, _+_, _*_, _<_, _≤_}
@@ -8,6 +8,7 @@ use lib.ListN.{length, getD, drop}
 use Rattle.integers.specs.Distance.{Within}
 use Rattle.sheet.specs.Limits.{sampleMost}
 use Rattle.sheet.specs.Lists.{at}
+use Rattle.sheet.specs.Sheet.{points}
 use Rattle.header.specs.declared.Header.{Header}
 use Rattle.header.specs.Refusals.{refusal}
 use Rattle.header.specs.Header.{cellBytes}
@@ -19,18 +20,18 @@ use Rattle.card.specs.Writing.{writing, outputLeast}
 abbrev pub headerIn : List ℕ → Header
 headerIn bs = opening bs .header
 
--- "with all its planes", in slices that hold qs and vs before
+-- a reading with all planes, in slices that hold qs and vs before
 abbrev pub readAll : List ℤ → List ℤ → List ℕ → Reading
 readAll qs vs bs = reading qs vs bs (record { planes = headerIn bs .planes })
 
 pub record Readable (bs : List ℕ) (qs vs : List ℤ) : Type 0 where
   -- the numbers in a slice of bytes
   pub bytes : (i : ℕ) → getD bs i 0 < 256
-  -- "A whole card": all the cells that its header names are there
+  -- the card is whole: all the cells that its header names are there
   pub whole : length bs ≡ opening bs .long + cellBytes * headerIn bs .cells
-  -- "that reading accepts"
+  -- reading accepts it
   pub taken : readAll qs vs bs .refused .number ≡ 0
-  -- "whose values lie in the reading range"
+  -- its values are in the range of samples
   pub range : (p : ℕ) → Within sampleMost (at (readAll qs vs bs .values) p)
 
 -- slices that writing takes for as many points
@@ -53,5 +54,5 @@ WritesBack bs r qs vs out =
 
 pub record WrittenBack : Type 0 where
   pub same : (bs : List ℕ) (qs vs : List ℤ) → Readable bs qs vs
-      → (qs′ vs′ : List ℤ) (out : List ℕ) → Room (length vs) qs′ vs′ out
+      → (qs′ vs′ : List ℤ) (out : List ℕ) → Room (points (headerIn bs .shape)) qs′ vs′ out
       → WritesBack bs (readAll qs vs bs) qs′ vs′ out

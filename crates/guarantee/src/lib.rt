@@ -1,1 +1,1 @@
-// No code: the demands, document 02's promises and document 01's bench rows, as theorems over the definitions that the calls' contracts cite.
+// No code: the demands, the table of groups and worked examples, as theorems over the definitions that the calls' contracts cite.

@@ -1,4 +1,4 @@
--- The points and the cells of a layer that may not be there: by the two tests, it has those of the layer or none. No layer has more points than the sheet. So sums over the layers may go on past the last.
+-- The points and the cells of a layer that may not be there: by the two tests, it has those of the layer or none. So sums over the layers may go on past the last.
 use mathlib.Core.List.{List}
 use mathlib.Core.Path.{_≡_, _∙_}
 use mathlib.Core.Bool.{true, _&&_}
@@ -9,23 +9,17 @@ use lib.ListN.{getD, List·getD-eq-default}
 use borrow.Author.Tests.{lt-ltb, le-ltb}
 use Rattle.integers.specs.Floor.{ceilDiv}
 use Rattle.sheet.specs.declared.Shape.{Shape}
-use Rattle.sheet.specs.Sheet.{sizeAt, accepted, layers, layerSize}
+use Rattle.sheet.specs.Sheet.{accepted, layers, layerSize}
+use Rattle.sheet.specs.Workings.Shapes.{sizeAt}
 use Rattle.sheet.specs.Lists.{total}
-use Rattle.sheet.specs.Limits.{pointsMost, layersMost}
+use Rattle.sheet.specs.Limits.{layersMost}
 use Rattle.sheet.proofs.Accepting.{accepted-yes, layers-few}
-use Rattle.integers.proofs.Bools.{by, and-left}
+use Rattle.integers.proofs.Bools.{by}
 use Rattle.sheet.proofs.Lists.{length-tabulate, getD-tabulate, getD-zeros}
-use Rattle.sheet.proofs.Places.{size-most}
-use Rattle.header.specs.Header.{cellPoints, planeCells, cellsAt, spansOf, cellsOf, cellsBy}
+use Rattle.header.specs.Header.{cellPoints, planeCells, cellsOf}
+use Rattle.header.specs.Workings.{cellsAt, spansOf, cellsBy}
 use Rattle.header.specs.Plan.{noPlan, loads}
 use Rattle.header.proofs.Totals.{total-same, total-past, total-none}
-
-pub sizing-most : (sh : Shape) (k : ℕ) → sizeAt sh k ≤ pointsMost
-unfolding sizeAt
-sizing-most sh k =
-    by (accepted sh && ltb k (layers sh))
-    (λ t. rw t (omega (arith, size-most sh k, accepted-yes sh (and-left _ _ t) .small)))
-    (λ t. rw t (omega arith))
 
 pub cells-sized : (sh : Shape) (k : ℕ) → cellsAt sh k ≡ ceilDiv (sizeAt sh k) cellPoints
 unfolding cellsAt sizeAt planeCells ceilDiv

@@ -18,12 +18,13 @@ use Rattle.sheet.specs.Sheet.{layers}
 use Rattle.sheet.proofs.Lists.{length-tabulate, getD-tabulate}
 use Rattle.integers.proofs.Bools.{by}
 use Rattle.text.specs.Text.{padded}
-use Rattle.text.specs.Line.{newline, before, starts, hasEnd}
-use Rattle.text.specs.Joined.{numbersIn, isSome, orZeros}
+use Rattle.text.specs.Line.{newline, indexOf, starts, hasEnd}
+use Rattle.text.specs.Joined.{numbersIn}
+use Rattle.text.specs.Workings.{isSome, orZeros}
 use Rattle.text.proofs.Search.{has-end, no-end}
 use Rattle.header.specs.Refusals.{refusal}
 use Rattle.header.specs.Header.{placesMost, ascii}
-use Rattle.header.specs.Opening.{no, planesMost, limits, openingPlanes, openingCells}
+use Rattle.header.specs.Opening.{notOpened, planesMost, limits, openingPlanes, openingCells}
 use Rattle.header.proofs.Rightness.{most-le, most-past}
 use Rattle.header.proofs.Counts.{Counted, counts-read}
 use Rattle.header.proofs.HeaderLines.{headed}
@@ -95,25 +96,25 @@ kept-few {sh} {text} few k i =
     (λ t. omega (arith, padded-past counts i (ltb-false i (length counts) t))))
 
 -- ---- the line
-module _ (bs : List ℕ) (sh : Shape) (curve : Curve) (step at e : ℕ) (is : e ≡ at + before newline (drop at bs)) where
-  pub planes-short : length bs ≤ e → openingPlanes bs sh curve step at ≡ no (refusal 5 0 0)
+module _ (bs : List ℕ) (sh : Shape) (curve : Curve) (step at e : ℕ) (is : e ≡ at + indexOf newline (drop at bs)) where
+  pub planes-short : length bs ≤ e → openingPlanes bs sh curve step at ≡ notOpened (refusal 5 0 0)
   unfolding openingPlanes
   planes-short h = simp (no-end (drop at bs) (omega (arith, length-drop at bs)))
 
   module _ (h : e < length bs) where
-    front : before newline (drop at bs) ≡ e - at
+    front : indexOf newline (drop at bs) ≡ e - at
     front = omega arith
 
     there : hasEnd (drop at bs) ≡ true
     there = has-end (drop at bs) (omega (arith, length-drop at bs))
 
-    pub planes-other : starts (ascii "planes=") (take (e - at) (drop at bs)) ≡ false → openingPlanes bs sh curve step at ≡ no (refusal 6 6 0)
+    pub planes-other : starts (ascii "planes=") (take (e - at) (drop at bs)) ≡ false → openingPlanes bs sh curve step at ≡ notOpened (refusal 6 6 0)
     unfolding openingPlanes
     planes-other s = simp (front, there, s)
 
     -- the text behind the key
     module _ (s : starts (ascii "planes=") (take (e - at) (drop at bs)) ≡ true) (text : List ℕ) (behind : text ≡ drop (length (ascii "planes=")) (take (e - at) (drop at bs))) where
-      pub planes-wrong : numbersIn (limits sh) text ≡ none → openingPlanes bs sh curve step at ≡ no (refusal 6 6 0)
+      pub planes-wrong : numbersIn (limits sh) text ≡ none → openingPlanes bs sh curve step at ≡ notOpened (refusal 6 6 0)
       unfolding openingPlanes
       planes-wrong q = simp (front, there, s, ← behind, q)
 

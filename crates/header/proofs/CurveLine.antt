@@ -11,11 +11,11 @@ use Rattle.sheet.specs.declared.Curve.{Curve}
 use Rattle.sheet.specs.declared.Curve.the-variants.{Linear, Cubic}
 use Rattle.integers.proofs.Bools.{and-left, and-right}
 use Rattle.text.specs.declared.Line.the-variants as L
-use Rattle.text.specs.Line.{newline, before, starts, hasEnd}
+use Rattle.text.specs.Line.{newline, indexOf, starts, hasEnd}
 use Rattle.text.proofs.Lines.{not-short, not-wrong}
 use Rattle.text.proofs.Search.{Free, end-inside, starts-split}
 use Rattle.header.specs.Header.{asciiFrom, ascii, curveText}
-use Rattle.header.specs.Opening.{same, curveLine, curveOf}
+use Rattle.header.specs.Opening.{isText, curveLine, curveOf}
 use Rattle.header.proofs.Ends.{ended, Ends, ends-at, seam-end, seam-inside, seam-front, seam-length}
 
 -- the number that a line's curve is read as
@@ -30,7 +30,7 @@ code-curve Cubic = refl
 abbrev pub curveWords : Curve → List ℕ
 curveWords c = ascii "curve=" ++ curveText c
 
-pub same-is : (key l : List ℕ) → same key l ≡ true → l ≡ key
+pub same-is : (key l : List ℕ) → isText key l ≡ true → l ≡ key
 same-is key l e =
     let s : starts key l ≡ true = and-left (starts key l) (eqb (length key) (length l)) e in
     let n : length key ≡ length l = eqb-true _ _ (and-right (starts key l) (eqb (length key) (length l)) e) in
@@ -40,24 +40,24 @@ same-is key l e =
 pub read-curve : (l : List ℕ) (v n : ℕ) → curveLine l ≡ L.Number v n → Ends l (curveWords (curveOf v)) n
 unfolding curveLine
 read-curve l v n e =
-    by (hasEnd l) (same (curveWords Linear) (take (before newline l) l)) (same (curveWords Cubic) (take (before newline l) l)) refl refl refl e
+    by (hasEnd l) (isText (curveWords Linear) (take (indexOf newline l) l)) (isText (curveWords Cubic) (take (indexOf newline l) l)) refl refl refl e
   where
-    by : (a b c : Bool) → hasEnd l ≡ a → same (curveWords Linear) (take (before newline l) l) ≡ b → same (curveWords Cubic) (take (before newline l) l) ≡ c
-        → cond a (cond b (L.Number 0 (before newline l + 1)) (cond c (L.Number 1 (before newline l + 1)) L.Wrong)) L.Short ≡ L.Number v n → Ends l (curveWords (curveOf v)) n
+    by : (a b c : Bool) → hasEnd l ≡ a → isText (curveWords Linear) (take (indexOf newline l) l) ≡ b → isText (curveWords Cubic) (take (indexOf newline l) l) ≡ c
+        → cond a (cond b (L.Number 0 (indexOf newline l + 1)) (cond c (L.Number 1 (indexOf newline l + 1)) L.Wrong)) L.Short ≡ L.Number v n → Ends l (curveWords (curveOf v)) n
     by false b c s p q e = absurd (not-short e)
     by true true c s p q e =
         let is : 0 ≡ v = cc in
-        let end : before newline l + 1 ≡ n = cc in
+        let end : indexOf newline l + 1 ≡ n = cc in
         rw (← is, ← end) (ends-at l (curveWords Linear) (end-inside l s) (same-is (curveWords Linear) _ p))
     by true false true s p q e =
         let is : 1 ≡ v = cc in
-        let end : before newline l + 1 ≡ n = cc in
+        let end : indexOf newline l + 1 ≡ n = cc in
         rw (← is, ← end) (ends-at l (curveWords Cubic) (end-inside l s) (same-is (curveWords Cubic) _ q))
     by true false false s p q e = absurd (not-wrong e)
 
 -- ---- written
 curve-free : (c : Curve) → Free newline (curveWords c)
-unfolding asciiFrom before
+unfolding asciiFrom indexOf
 curve-free Linear = refl
 curve-free Cubic = refl
 
@@ -67,7 +67,7 @@ written-curve c rest =
     rw (seam-inside (curveWords c) rest (curve-free c), seam-end (curveWords c) rest (curve-free c), seam-front (curveWords c) rest (curve-free c), seam-length (curveWords c)) (words c)
   where
     words : (c : Curve)
-        → cond (same (curveWords Linear) (curveWords c)) (L.Number 0 (length (ended (curveWords c))))
-        (cond (same (curveWords Cubic) (curveWords c)) (L.Number 1 (length (ended (curveWords c)))) L.Wrong) ≡ L.Number (curveCode c) (length (ended (curveWords c)))
+        → cond (isText (curveWords Linear) (curveWords c)) (L.Number 0 (length (ended (curveWords c))))
+        (cond (isText (curveWords Cubic) (curveWords c)) (L.Number 1 (length (ended (curveWords c)))) L.Wrong) ≡ L.Number (curveCode c) (length (ended (curveWords c)))
     words Linear = unfold asciiFrom starts in refl
     words Cubic = unfold asciiFrom starts in refl

@@ -14,14 +14,14 @@ use Rattle.sheet.specs.Sheet.{sheetOf}
 use Rattle.sheet.proofs.Flat.{flat-shape}
 use Rattle.text.specs.declared.Line.the-variants as L
 use Rattle.text.specs.Text.{padded}
-use Rattle.text.specs.Line.{newline, before, hasEnd, lineAt}
+use Rattle.text.specs.Line.{newline, indexOf, hasEnd, lineAt}
 use Rattle.text.proofs.Lines.{written, short-take, number-take}
 use Rattle.text.proofs.Search.{before-take, before-le, has-end, no-end}
 use Rattle.header.specs.declared.Header.{Header}
 use Rattle.header.specs.Refusals.{refusal}
 use Rattle.header.specs.Header.{ascii, cellBytes, headerText}
 use Rattle.header.specs.Opening as O
-use Rattle.header.specs.Opening.{Opening, taking, takingPlanes, curveLine, openingCells, openingPlanes, openingStep, openingCurve, openingLevels, openingCols, opening, right}
+use Rattle.header.specs.Opening.{Opening, taking, takingPlanes, curveLine, openingCells, openingPlanes, openingStep, openingCurve, openingLevels, openingCols, opening, wellFormed}
 use Rattle.header.proofs.Ends.{drop-take}
 use Rattle.header.proofs.CurveLine.{read-curve}
 use Rattle.header.proofs.Turns.{PlanesLine}
@@ -31,44 +31,44 @@ use Rattle.header.proofs.Printed.{printed-opens}
 
 -- ---- a text cut behind its first byte 10, and before it
 module _ (m : ℕ) (l : List ℕ) where
-  module _ (inside : before newline l < length l) (h : before newline l + 1 ≤ m) where
-    end-kept : before newline (take m l) ≡ before newline l
+  module _ (inside : indexOf newline l < length l) (h : indexOf newline l + 1 ≤ m) where
+    end-kept : indexOf newline (take m l) ≡ indexOf newline l
     end-kept = omega (arith, before-take newline m l)
 
-    inside-kept : before newline l < length (take m l)
+    inside-kept : indexOf newline l < length (take m l)
     inside-kept = omega (arith, length-take m l)
 
-    front-kept : take (before newline l) (take m l) ≡ take (before newline l) l
-    front-kept = take-take (before newline l) m l (omega arith)
+    front-kept : take (indexOf newline l) (take m l) ≡ take (indexOf newline l) l
+    front-kept = take-take (indexOf newline l) m l (omega arith)
 
-  end-lost : m ≤ before newline l → hasEnd (take m l) ≡ false
+  end-lost : m ≤ indexOf newline l → hasEnd (take m l) ≡ false
   end-lost h = no-end (take m l) (omega (arith, before-take newline m l, length-take m l, before-le newline l))
 
-  curve-same : before newline l < length l → before newline l + 1 ≤ m → curveLine (take m l) ≡ curveLine l
+  curve-same : indexOf newline l < length l → indexOf newline l + 1 ≤ m → curveLine (take m l) ≡ curveLine l
   unfolding curveLine hasEnd
-  curve-same i k = simp (end-kept i k, front-kept i k, lt-ltb (before newline l) (length (take m l)) (inside-kept i k), lt-ltb (before newline l) (length l) i)
+  curve-same i k = simp (end-kept i k, front-kept i k, lt-ltb (indexOf newline l) (length (take m l)) (inside-kept i k), lt-ltb (indexOf newline l) (length l) i)
 
   curve-kept : (v n : ℕ) → curveLine l ≡ L.Number v n → n ≤ m → curveLine (take m l) ≡ L.Number v n
   curve-kept v n e h = let r = read-curve l v n e in curve-same (omega arith) (omega arith) ∙ e
 
-  curve-lost : m ≤ before newline l → curveLine (take m l) ≡ L.Short
+  curve-lost : m ≤ indexOf newline l → curveLine (take m l) ≡ L.Short
   unfolding curveLine
   curve-lost h = rw (end-lost h)
 
-  planes-kept : (sh : Shape) (counts : List ℕ) → PlanesLine sh l counts → before newline l + 1 ≤ m → PlanesLine sh (take m l) counts
+  planes-kept : (sh : Shape) (counts : List ℕ) → PlanesLine sh l counts → indexOf newline l + 1 ≤ m → PlanesLine sh (take m l) counts
   planes-kept sh counts p h =
-      let e : before newline (take m l) ≡ before newline l = end-kept (p .inside) h in
-      let f : take (before newline l) (take m l) ≡ take (before newline l) l = front-kept (p .inside) h in
+      let e : indexOf newline (take m l) ≡ indexOf newline l = end-kept (p .inside) h in
+      let f : take (indexOf newline l) (take m l) ≡ take (indexOf newline l) l = front-kept (p .inside) h in
       record {
         inside = rw e (inside-kept (p .inside) h);
         key = rw (e, f) (p .key);
         counts-are = rw (e, f) (p .counts-are);
       }
 
-  planes-lost : (sh : Shape) (go : List ℕ → ℕ → Opening) → m ≤ before newline l → takingPlanes sh (take m l) go ≡ O.no (refusal 5 0 0)
+  planes-lost : (sh : Shape) (go : List ℕ → ℕ → Opening) → m ≤ indexOf newline l → takingPlanes sh (take m l) go ≡ O.notOpened (refusal 5 0 0)
   planes-lost sh go h = rw (end-lost h)
 
-planes-go : (sh : Shape) (l counts : List ℕ) (go : List ℕ → ℕ → Opening) → PlanesLine sh l counts → takingPlanes sh l go ≡ go (padded layersMost counts) (before newline l + 1)
+planes-go : (sh : Shape) (l counts : List ℕ) (go : List ℕ → ℕ → Opening) → PlanesLine sh l counts → takingPlanes sh l go ≡ go (padded layersMost counts) (indexOf newline l + 1)
 planes-go sh l counts go p = rw (has-end l (p .inside), p .key, p .counts-are)
 
 -- ---- a line in turn: it is cut, or what follows it is
@@ -77,7 +77,7 @@ module _ (bs : List ℕ) (n : ℕ) where
   left = take n bs
 
   line-turn : (number : ℕ) (key : List ℕ) (low high at v k : ℕ) (go : ℕ → ℕ → Opening) → lineAt key low high (drop at bs) ≡ L.Number v k → at ≤ n
-      → (at + k ≤ n → go v k ≡ O.no (refusal 5 0 0)) → taking number (lineAt key low high (drop at left)) go ≡ O.no (refusal 5 0 0)
+      → (at + k ≤ n → go v k ≡ O.notOpened (refusal 5 0 0)) → taking number (lineAt key low high (drop at left)) go ≡ O.notOpened (refusal 5 0 0)
   line-turn number key low high at v k go e l rest =
       rw (drop-take at n bs)
       (elim (decLt n (at + k)) [
@@ -104,11 +104,11 @@ module _ (bs : List ℕ) (n : ℕ) where
     abbrev at₇ : ℕ
     at₇ = at₆ + s .n₆
 
-    cells-cut : at₇ ≤ n → openingCells left h at₇ ≡ O.no (refusal 5 0 0)
+    cells-cut : at₇ ≤ n → openingCells left h at₇ ≡ O.notOpened (refusal 5 0 0)
     unfolding openingCells
     cells-cut l = line-turn 7 (ascii "cells=") (h .cells) (h .cells) at₇ (s .total) (s .n₇) _ (s .cells-line) l (λ k. absurd (let z : ⊥ = omega (arith, s .long-is) in z))
 
-    planes-cut : at₆ ≤ n → openingPlanes left (h .shape) (h .curve) (h .step) at₆ ≡ O.no (refusal 5 0 0)
+    planes-cut : at₆ ≤ n → openingPlanes left (h .shape) (h .curve) (h .step) at₆ ≡ O.notOpened (refusal 5 0 0)
     unfolding openingPlanes
     planes-cut l =
         let line = drop at₆ bs in
@@ -116,17 +116,17 @@ module _ (bs : List ℕ) (n : ℕ) where
         elim (decLt n at₇) [
           | yes y ↦ rw (drop-take at₆ n bs) (planes-lost (n - at₆) line (h .shape) go (omega (arith, s .planes-end)))
           | no y ↦
-              let kept : before newline line + 1 ≤ n - at₆ = omega (arith, s .planes-end) in
+              let kept : indexOf newline line + 1 ≤ n - at₆ = omega (arith, s .planes-end) in
               rw (drop-take at₆ n bs)
               (planes-go (h .shape) (take (n - at₆) line) (s .counts) go (planes-kept (n - at₆) line (h .shape) (s .counts) (s .planes-line) kept)
               ∙ rw (end-kept (n - at₆) line (s .planes-line .inside) kept, ← s .planes-end, ← s .planes-are, ← s .cells-are) (cells-cut (omega arith)))
         ]
 
-    step-cut : at₅ ≤ n → openingStep left (h .shape) (h .curve) at₅ ≡ O.no (refusal 5 0 0)
+    step-cut : at₅ ≤ n → openingStep left (h .shape) (h .curve) at₅ ≡ O.notOpened (refusal 5 0 0)
     unfolding openingStep
     step-cut l = line-turn 5 (ascii "step=") 0 stepMost at₅ (h .step) (s .n₅) (λ step k. openingPlanes left (h .shape) (h .curve) step (at₅ + k)) (s .step-line) l planes-cut
 
-    curve-cut : at₄ ≤ n → openingCurve left (h .shape) at₄ ≡ O.no (refusal 5 0 0)
+    curve-cut : at₄ ≤ n → openingCurve left (h .shape) at₄ ≡ O.notOpened (refusal 5 0 0)
     unfolding openingCurve
     curve-cut l =
         let line = drop at₄ bs in
@@ -137,15 +137,15 @@ module _ (bs : List ℕ) (n : ℕ) where
           | no y ↦ rw (curve-kept (n - at₄) line (s .curve) (s .n₄) (s .curve-line) (omega arith), ← s .curve-is) (step-cut (omega arith))
         ])
 
-    levels-cut : at₃ ≤ n → openingLevels left (h .shape .rows) (h .shape .cols) at₃ ≡ O.no (refusal 5 0 0)
+    levels-cut : at₃ ≤ n → openingLevels left (h .shape .rows) (h .shape .cols) at₃ ≡ O.notOpened (refusal 5 0 0)
     unfolding openingLevels
     levels-cut l = line-turn 3 (ascii "levels=") 0 levelsMost at₃ (h .shape .levels) (s .n₃) (λ levels k. openingCurve left (sheetOf (h .shape .rows) (h .shape .cols) levels) (at₃ + k)) (s .levels-line) l (λ k. rw (← flat-shape (h .shape) (s .flat)) (curve-cut k))
 
-    cols-cut : at₂ ≤ n → openingCols left (h .shape .rows) at₂ ≡ O.no (refusal 5 0 0)
+    cols-cut : at₂ ≤ n → openingCols left (h .shape .rows) at₂ ≡ O.notOpened (refusal 5 0 0)
     unfolding openingCols
     cols-cut l = line-turn 2 (ascii "cols=") 1 (pointsMost / h .shape .rows) at₂ (h .shape .cols) (s .n₂) (λ cols k. openingLevels left (h .shape .rows) cols (at₂ + k)) (s .cols-line) l levels-cut
 
-    lines-cut : opening left ≡ O.no (refusal 5 0 0)
+    lines-cut : opening left ≡ O.notOpened (refusal 5 0 0)
     unfolding opening
     lines-cut =
         elim (decLt n at₂) [
@@ -154,7 +154,7 @@ module _ (bs : List ℕ) (n : ℕ) where
         ]
 
 -- ---- a header and its cells, truncated
-module _ (h : Header) (e : right h ≡ true) (full : length (h .planes) ≡ layersMost) (body : List ℕ) (fits : length body ≤ cellBytes * h .cells) (n : ℕ) where
+module _ (h : Header) (e : wellFormed h ≡ true) (full : length (h .planes) ≡ layersMost) (body : List ℕ) (fits : length body ≤ cellBytes * h .cells) (n : ℕ) where
   pub cut-behind : length (headerText h) ≤ n → opening (take n (headerText h ++ body)) ≡ accepting h (length (headerText h))
   cut-behind l =
       let m = n - length (headerText h) in
@@ -163,7 +163,7 @@ module _ (h : Header) (e : right h ≡ true) (full : length (h .planes) ≡ laye
 
 -- ---- THE LAW: any bytes that open, cut in the header, are refused with 5; and cut behind it they open with the same header
 module _ (bs : List ℕ) (e : Accepts (opening bs)) (n : ℕ) where
-  pub opened-cut : n < opening bs .long → opening (take n bs) ≡ O.no (refusal 5 0 0)
+  pub opened-cut : n < opening bs .long → opening (take n bs) ≡ O.notOpened (refusal 5 0 0)
   opened-cut l = lines-cut bs n (opening bs .header) (opening bs .long) (lines-of bs e) l
 
   pub opened-kept : opening bs .long ≤ n → opening (take n bs) ≡ accepting (opening bs .header) (opening bs .long)

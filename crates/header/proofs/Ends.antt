@@ -8,8 +8,8 @@ use native.Mathlib.Omega.{arith}
 use lib.ListN.{length, take, drop, length-append, length-take, take-append-drop}
 use lib.Seq.{take-suc, take-append-seam, append-snoc, drop-drop, drop-append-seam, take-nil}
 use Rattle.text.specs.declared.Line.the-variants as L
-use Rattle.text.specs.Decimal.{digits}
-use Rattle.text.specs.Line.{newline, before, hasEnd, lineAt, lineText}
+use Rattle.text.specs.Decimal.{decimal}
+use Rattle.text.specs.Line.{newline, indexOf, hasEnd, lineAt, lineText}
 use Rattle.text.proofs.Lines.{Written, written}
 use Rattle.text.proofs.Search.{Free, found, has-end, before-seam}
 
@@ -20,22 +20,22 @@ ended t = t ++ newline ∷ []
 pub record Ends (l t : List ℕ) (n : ℕ) : Type 0 where
   pub text-is : l ≡ ended t ++ drop n l
   pub length-is : n ≡ length (ended t)
-  pub end-is : n ≡ before newline l + 1
+  pub end-is : n ≡ indexOf newline l + 1
   pub fits : n ≤ length l
 
-pub ends-at : (l t : List ℕ) → before newline l < length l → take (before newline l) l ≡ t → Ends l t (before newline l + 1)
+pub ends-at : (l t : List ℕ) → indexOf newline l < length l → take (indexOf newline l) l ≡ t → Ends l t (indexOf newline l + 1)
 ends-at l t h e =
-    let front : take (before newline l + 1) l ≡ ended t =
-    rw add-one (take-suc l (before newline l) 0 h ∙ rw (found newline l h, e)) in
+    let front : take (indexOf newline l + 1) l ≡ ended t =
+    rw add-one (take-suc l (indexOf newline l) 0 h ∙ rw (found newline l h, e)) in
     record {
-      text-is = sym (take-append-drop (before newline l + 1) l) ∙ ap (λ (a : List ℕ). a ++ drop (before newline l + 1) l) front;
-      length-is = omega (arith, length-take (before newline l + 1) l, ap length front);
+      text-is = sym (take-append-drop (indexOf newline l + 1) l) ∙ ap (λ (a : List ℕ). a ++ drop (indexOf newline l + 1) l) front;
+      length-is = omega (arith, length-take (indexOf newline l + 1) l, ap length front);
       end-is = refl;
       fits = omega arith;
     }
 
 -- a line of a key and a number that is read
-pub ends-number : (key : List ℕ) (low high : ℕ) (l : List ℕ) (v n : ℕ) → lineAt key low high l ≡ L.Number v n → Ends l (key ++ digits v) n
+pub ends-number : (key : List ℕ) (low high : ℕ) (l : List ℕ) (v n : ℕ) → lineAt key low high l ≡ L.Number v n → Ends l (key ++ decimal v) n
 ends-number key low high l v n e =
     let w : Written key low high l v n = written key low high l v n e in
     record {
@@ -62,7 +62,7 @@ front-next {bs} {front} {t} {at} {n} f e =
 
 -- ---- a line that is written
 module _ (t rest : List ℕ) (free : Free newline t) where
-  pub seam-end : before newline (ended t ++ rest) ≡ length t
+  pub seam-end : indexOf newline (ended t ++ rest) ≡ length t
   seam-end = rw (append-snoc t newline rest) (before-seam newline t rest free)
 
   pub seam-inside : hasEnd (ended t ++ rest) ≡ true

@@ -15,12 +15,12 @@ use Rattle.sheet.proofs.Flat.{flat-shape}
 use Rattle.integers.proofs.Bools.{choice}
 use Rattle.text.specs.declared.Line.the-variants as L
 use Rattle.text.specs.Text.{padded}
-use Rattle.text.specs.Line.{newline, before, lineAt}
+use Rattle.text.specs.Line.{newline, indexOf, lineAt}
 use Rattle.text.proofs.Search.{has-end}
 use Rattle.header.specs.declared.Header.{Header}
 use Rattle.header.specs.Refusals.{refusal}
 use Rattle.header.specs.Header.{cellBytes, ascii, cellsOf}
-use Rattle.header.specs.Opening.{Opening, no, curveLine, curveOf, openingCells, openingPlanes, openingStep, openingCurve, openingLevels, openingCols, opening}
+use Rattle.header.specs.Opening.{Opening, notOpened, curveLine, curveOf, openingCells, openingPlanes, openingStep, openingCurve, openingLevels, openingCols, opening}
 use Rattle.header.proofs.Turns.{PlanesLine, turn, turn-planes}
 
 pub record HeaderLines (bs : List ℕ) (h : Header) (long : ℕ) : Type 0 where
@@ -43,7 +43,7 @@ pub record HeaderLines (bs : List ℕ) (h : Header) (long : ℕ) : Type 0 where
   pub step-line : lineAt (ascii "step=") 0 stepMost (drop (n₁ + n₂ + n₃ + n₄) bs) ≡ L.Number (h .step) n₅
   pub counts : List ℕ
   pub planes-line : PlanesLine (h .shape) (drop (n₁ + n₂ + n₃ + n₄ + n₅) bs) counts
-  pub planes-end : n₆ ≡ before newline (drop (n₁ + n₂ + n₃ + n₄ + n₅) bs) + 1
+  pub planes-end : n₆ ≡ indexOf newline (drop (n₁ + n₂ + n₃ + n₄ + n₅) bs) + 1
   pub planes-are : h .planes ≡ padded layersMost counts
   pub total : ℕ
   pub cells-line : lineAt (ascii "cells=") (h .cells) (h .cells) (drop (n₁ + n₂ + n₃ + n₄ + n₅ + n₆) bs) ≡ L.Number total n₇
@@ -57,9 +57,9 @@ headed sh curve step planes = record { shape = sh; curve = curve; step = step; p
 abbrev pub accepting : Header → ℕ → Opening
 accepting h long = record { refused = refusal 0 0 0; header = h; long = long }
 
--- "7, bytes follow the last cell"
+-- refusal 7: bytes behind the last cell
 abbrev closing : List ℕ → Header → ℕ → Opening
-closing bs h long = cond (ltb (long + cellBytes * h .cells) (length bs)) (no (refusal 7 0 0)) (accepting h long)
+closing bs h long = cond (ltb (long + cellBytes * h .cells) (length bs)) (notOpened (refusal 7 0 0)) (accepting h long)
 
 abbrev pub Accepts : Opening → Type 0
 Accepts o = o .refused .number ≡ 0
@@ -68,7 +68,7 @@ module _ (bs : List ℕ) where
   Lined : Opening → Type 0
   Lined o = Accepts o → HeaderLines bs (o .header) (o .long)
 
-  refused : (n a b : ℕ) → Lined (no (refusal (suc n) a b))
+  refused : (n a b : ℕ) → Lined (notOpened (refusal (suc n) a b))
   unfolding Lined
   refused n a b e = absurd (let z : ⊥ = omega arith in z)
 
@@ -83,7 +83,7 @@ module _ (bs : List ℕ) where
       turn Lined 5 (lineAt (ascii "step=") 0 stepMost (drop (n₁ + n₂ + n₃ + n₄) bs)) (λ step n. openingPlanes bs sh (curveOf v) step (n₁ + n₂ + n₃ + n₄ + n)) (refused 4 0 0) (refused 5 5 0) (λ step n₅ e₅.
       let at = n₁ + n₂ + n₃ + n₄ + n₅ in
       turn-planes Lined sh (drop at bs) (λ planes n. openingCells bs (headed sh (curveOf v) step planes) (at + n)) (refused 4 0 0) (refused 5 6 0) (λ counts e₆.
-      let n₆ = before newline (drop at bs) + 1 in
+      let n₆ = indexOf newline (drop at bs) + 1 in
       let h = headed sh (curveOf v) step (padded layersMost counts) in
       turn Lined 7 (lineAt (ascii "cells=") (h .cells) (h .cells) (drop (at + n₆) bs)) (λ _ n. closing bs h (at + n₆ + n)) (refused 4 0 0) (refused 5 7 0) (λ total n₇ e₇.
       choice Lined (ltb (at + n₆ + n₇ + cellBytes * h .cells) (length bs)) (λ _. refused 6 0 0) (λ e _.

@@ -10,20 +10,20 @@ use lib.ListN.{length, take, drop, getD, replicate, length-append, length-drop, 
 use lib.Seq.{getD-append-add}
 use Rattle.sheet.specs.declared.Shape.{Shape}
 use Rattle.sheet.specs.Limits.{pointsMost, levelsMost, layersMost, stepMost}
-use Rattle.sheet.specs.Sheet.{layerCount}
-use Rattle.sheet.proofs.Accepting.{Sheet, accepted-by, layers-few, count-is}
+use Rattle.sheet.specs.Sheet.{layers}
+use Rattle.sheet.proofs.Accepting.{Sheet, accepted-by, layers-few}
 use Rattle.sheet.proofs.Flat.{flat-points}
 use Rattle.sheet.proofs.Lists.{getD-zeros}
 use Rattle.integers.proofs.Bools.{by}
 use Rattle.text.specs.Text.{padded}
-use Rattle.text.specs.Line.{newline, before, lineText}
+use Rattle.text.specs.Line.{newline, indexOf, lineText}
 use Rattle.text.specs.Joined.{joined}
 use Rattle.text.proofs.Padding.{padded-take}
 use Rattle.text.proofs.Lines.{Written, written}
 use Rattle.text.proofs.Search.{starts-split}
 use Rattle.header.specs.declared.Header.{Header}
 use Rattle.header.specs.Header.{cellBytes, ascii, planesOf, headerText}
-use Rattle.header.specs.Opening.{planesMost, right, opening}
+use Rattle.header.specs.Opening.{planesMost, wellFormed, opening}
 use Rattle.header.proofs.Rightness.{Right, right-by}
 use Rattle.header.proofs.Counts.{Counted, counts-read}
 use Rattle.header.proofs.Ends.{Ends, ends-at, ends-number, Front, front-first, front-next}
@@ -33,7 +33,7 @@ use Rattle.header.proofs.Turns.{PlanesLine}
 use Rattle.header.proofs.HeaderLines.{HeaderLines, Accepts, lines-of}
 
 pub record Opens (bs : List ℕ) (h : Header) (long : ℕ) : Type 0 where
-  pub right-is : right h ≡ true
+  pub right-is : wellFormed h ≡ true
   pub counts-long : length (h .planes) ≡ layersMost
   pub text-is : bs ≡ headerText h ++ drop long bs
   pub length-is : long ≡ length (headerText h)
@@ -56,10 +56,10 @@ padded-past counts k p =
     (rw e at (getD-append-add counts (replicate (layersMost - length counts) 0) (k - length counts) 0)) ∙ getD-zeros (layersMost - length counts) (k - length counts)
 
 -- ---- line 6
-read-planes : (sh : Shape) (l counts : List ℕ) → PlanesLine sh l counts → Ends l (ascii "planes=" ++ joined counts) (before newline l + 1)
+read-planes : (sh : Shape) (l counts : List ℕ) → PlanesLine sh l counts → Ends l (ascii "planes=" ++ joined counts) (indexOf newline l + 1)
 read-planes sh l counts p =
     ends-at l (ascii "planes=" ++ joined counts) (p .inside)
-    (starts-split (ascii "planes=") (take (before newline l) l) (p .key)
+    (starts-split (ascii "planes=") (take (indexOf newline l) l) (p .key)
     ∙ ap (λ (a : List ℕ). ascii "planes=" ++ a) (counts-read sh _ counts (p .counts-are) .text-is))
 
 module _ (bs : List ℕ) (h : Header) (long : ℕ) (s : HeaderLines bs h long) where
@@ -80,7 +80,7 @@ module _ (bs : List ℕ) (h : Header) (long : ℕ) (s : HeaderLines bs h long) w
   abbrev line : List ℕ
   line = drop (s .n₁ + s .n₂ + s .n₃ + s .n₄ + s .n₅) bs
 
-  counted : Counted (h .shape) (drop (length (ascii "planes=")) (take (before newline line) line)) (s .counts)
+  counted : Counted (h .shape) (drop (length (ascii "planes=")) (take (indexOf newline line) line)) (s .counts)
   counted = counts-read (h .shape) _ (s .counts) (s .planes-line .counts-are)
 
   few : length (s .counts) ≤ layersMost
@@ -104,9 +104,9 @@ module _ (bs : List ℕ) (h : Header) (long : ℕ) (s : HeaderLines bs h long) w
           rw (padded-in (s .counts) few k inside) (counted .most k (omega (arith, counted .long))))
           (λ t. rw (padded-past (s .counts) k (ltb-false k (length (s .counts)) t)) (omega arith)))
 
-  counts-listed : take (layerCount (h .shape)) (h .planes) ≡ s .counts
+  counts-listed : take (layers (h .shape)) (h .planes) ≡ s .counts
   counts-listed =
-      let e : layerCount (h .shape) ≡ length (s .counts) = omega (arith, counted .long, count-is (h .shape) (accepted-by (h .shape) sizes)) in
+      let e : layers (h .shape) ≡ length (s .counts) = omega (arith, counted .long) in
       rw (e, s .planes-are) (padded-take layersMost (s .counts))
 
   lines-front : Front bs (headerText h) (s .n₁ + s .n₂ + s .n₃ + s .n₄ + s .n₅ + s .n₆ + s .n₇)

@@ -9,18 +9,18 @@ use native.Mathlib.Omega.{arith}
 use lib.ListN.{length, take, drop, getD, replicate, length-append, length-take, length-drop, length-replicate, take-append-drop, getD-replicate}
 use lib.Seq.{getD-take, getD-drop, ext-getD, drop-append-seam}
 use Rattle.sheet.specs.Limits.{pointsMost, levelsMost, layersMost, stepMost}
-use Rattle.sheet.specs.Sheet.{layers, layerCount}
-use Rattle.sheet.proofs.Accepting.{Sheet, accepted-yes, count-is}
+use Rattle.sheet.specs.Sheet.{layers}
+use Rattle.sheet.proofs.Accepting.{Sheet, accepted-yes}
 use Rattle.sheet.proofs.Fits.{sheet-small, rows-small}
 use Rattle.text.specs.Text.{padded}
-use Rattle.text.specs.Line.{newline, before, lineAt, lineText}
+use Rattle.text.specs.Line.{newline, indexOf, lineAt, lineText}
 use Rattle.text.specs.Joined.{joined, numbersIn}
 use Rattle.text.proofs.Joins.{joined-free}
 use Rattle.text.proofs.Lines.{read-written}
 use Rattle.text.proofs.Search.{Free, end-inside, free-append, starts-append}
 use Rattle.header.specs.declared.Header.{Header}
 use Rattle.header.specs.Header.{asciiFrom, ascii, cellBytes, headerText}
-use Rattle.header.specs.Opening.{limits, right, opening}
+use Rattle.header.specs.Opening.{limits, wellFormed, opening}
 use Rattle.header.proofs.Rightness.{Right, right-yes, one-sheet, layers-few, counts-past}
 use Rattle.header.proofs.Counts.{counts-written}
 use Rattle.header.proofs.Ends.{ended, seam-end, seam-inside, seam-front, seam-length, rest-next}
@@ -30,40 +30,40 @@ use Rattle.header.proofs.HeaderLines.{HeaderLines, accepting, opening-o
 
 module _ (h : Header) (r : Right h) (full : length (h .planes) ≡ layersMost) where
   abbrev counts : List ℕ
-  counts = take (layerCount (h .shape)) (h .planes)
+  counts = take (layers (h .shape)) (h .planes)
 
   counts-length : length counts ≡ layers (h .shape)
-  counts-length = omega (arith, count-is (h .shape) (r .shape), length-take (layerCount (h .shape)) (h .planes), layers-few r)
+  counts-length = omega (arith, length-take (layers (h .shape)) (h .planes), layers-few r)
 
   -- past the last layer the counts are 0, so padding gives them back
   counts-padded : padded layersMost counts ≡ h .planes
   unfolding padded
   counts-padded =
-      ap (λ (l : List ℕ). counts ++ l) (ext-getD 0 (replicate (layersMost - length counts) 0) (drop (layerCount (h .shape)) (h .planes)) same-length each)
-      ∙ take-append-drop (layerCount (h .shape)) (h .planes)
+      ap (λ (l : List ℕ). counts ++ l) (ext-getD 0 (replicate (layersMost - length counts) 0) (drop (layers (h .shape)) (h .planes)) same-length each)
+      ∙ take-append-drop (layers (h .shape)) (h .planes)
     where
-      same-length : length (replicate {A = ℕ} (layersMost - length counts) 0) ≡ length (drop (layerCount (h .shape)) (h .planes))
-      same-length = omega (arith, length-replicate {A = ℕ} (layersMost - length counts) 0, length-drop (layerCount (h .shape)) (h .planes), counts-length, count-is (h .shape) (r .shape))
+      same-length : length (replicate {A = ℕ} (layersMost - length counts) 0) ≡ length (drop (layers (h .shape)) (h .planes))
+      same-length = omega (arith, length-replicate {A = ℕ} (layersMost - length counts) 0, length-drop (layers (h .shape)) (h .planes), counts-length)
 
-      each : (i : ℕ) → i < length (replicate {A = ℕ} (layersMost - length counts) 0) → getD (replicate (layersMost - length counts) 0) i 0 ≡ getD (drop (layerCount (h .shape)) (h .planes)) i 0
+      each : (i : ℕ) → i < length (replicate {A = ℕ} (layersMost - length counts) 0) → getD (replicate (layersMost - length counts) 0) i 0 ≡ getD (drop (layers (h .shape)) (h .planes)) i 0
       each i l =
           let inside : i < layersMost - length counts = omega (arith, length-replicate {A = ℕ} (layersMost - length counts) 0) in
           getD-replicate (layersMost - length counts) i 0 0 inside
-          ∙ sym (getD-drop (layerCount (h .shape)) (h .planes) i 0 ∙ counts-past r (layerCount (h .shape) + i) (omega (arith, count-is (h .shape) (r .shape))) (omega (arith, count-is (h .shape) (r .shape), counts-length)))
+          ∙ sym (getD-drop (layers (h .shape)) (h .planes) i 0 ∙ counts-past r (layers (h .shape) + i) (omega arith) (omega (arith, counts-length)))
 
   -- ---- line 6
   abbrev words : List ℕ
   words = ascii "planes=" ++ joined counts
 
   words-free : Free newline words
-  words-free = free-append newline (ascii "planes=") (joined counts) (unfold asciiFrom before in refl) (joined-free counts)
+  words-free = free-append newline (ascii "planes=") (joined counts) (unfold asciiFrom indexOf in refl) (joined-free counts)
 
   counts-read : numbersIn (limits (h .shape)) (joined counts) ≡ some counts
   counts-read =
       counts-written (h .shape) counts counts-length
       (λ i l.
-      let inside : i < layerCount (h .shape) = omega (arith, count-is (h .shape) (r .shape)) in
-      rw (getD-take (layerCount (h .shape)) (h .planes) i 0 inside) (r .counts i (omega (arith, layers-few r))))
+      let inside : i < layers (h .shape) = omega arith in
+      rw (getD-take (layers (h .shape)) (h .planes) i 0 inside) (r .counts i (omega (arith, layers-few r))))
 
   planes-read : (l rest : List ℕ) → l ≡ ended words ++ rest → PlanesLine (h .shape) l counts
   planes-read l rest e =
@@ -115,25 +115,25 @@ module _ (h : Header) (r : Right h) (full : length (h .planes) ≡ layersMost) w
           n₆ = n₆;
           n₇ = n₇;
           flat = one-sheet r;
-          rows-line = ap (lineAt (ascii "rows=") 1 pointsMost) b₁ ∙ read-written (ascii "rows=") 1 pointsMost (sh .rows) _ (unfold asciiFrom before in refl) (sizes .tall) (rows-small sizes);
-          cols-line = ap (lineAt (ascii "cols=") 1 (pointsMost / sh .rows)) b₂ ∙ read-written (ascii "cols=") 1 (pointsMost / sh .rows) (sh .cols) _ (unfold asciiFrom before in refl) (sizes .wide) wide;
-          levels-line = ap (lineAt (ascii "levels=") 0 levelsMost) b₃ ∙ read-written (ascii "levels=") 0 levelsMost (sh .levels) _ (unfold asciiFrom before in refl) (omega arith) (sizes .shallow);
+          rows-line = ap (lineAt (ascii "rows=") 1 pointsMost) b₁ ∙ read-written (ascii "rows=") 1 pointsMost (sh .rows) _ (unfold asciiFrom indexOf in refl) (sizes .tall) (rows-small sizes);
+          cols-line = ap (lineAt (ascii "cols=") 1 (pointsMost / sh .rows)) b₂ ∙ read-written (ascii "cols=") 1 (pointsMost / sh .rows) (sh .cols) _ (unfold asciiFrom indexOf in refl) (sizes .wide) wide;
+          levels-line = ap (lineAt (ascii "levels=") 0 levelsMost) b₃ ∙ read-written (ascii "levels=") 0 levelsMost (sh .levels) _ (unfold asciiFrom indexOf in refl) (omega arith) (sizes .shallow);
           curve = curveCode (h .curve);
           curve-line = rw b₄ (written-curve (h .curve) _);
           curve-is = sym (code-curve (h .curve));
-          step-line = ap (lineAt (ascii "step=") 0 stepMost) b₅ ∙ read-written (ascii "step=") 0 stepMost (h .step) _ (unfold asciiFrom before in refl) (omega arith) (r .step);
+          step-line = ap (lineAt (ascii "step=") 0 stepMost) b₅ ∙ read-written (ascii "step=") 0 stepMost (h .step) _ (unfold asciiFrom indexOf in refl) (omega arith) (r .step);
           counts = counts;
           planes-line = planes-read _ (t₇ ++ body) b₆;
           planes-end = rw (b₆, seam-end words (t₇ ++ body) words-free) (sym (seam-length words));
           planes-are = sym counts-padded;
           total = h .cells;
-          cells-line = ap (lineAt (ascii "cells=") (h .cells) (h .cells)) b₇ ∙ read-written (ascii "cells=") (h .cells) (h .cells) (h .cells) body (unfold asciiFrom before in refl) (omega arith) (omega arith);
+          cells-line = ap (lineAt (ascii "cells=") (h .cells) (h .cells)) b₇ ∙ read-written (ascii "cells=") (h .cells) (h .cells) (h .cells) body (unfold asciiFrom indexOf in refl) (omega arith) (omega arith);
           cells-are = r .cells;
           long-is = long;
           enough = rw is (omega (arith, length-append (headerText h) body));
         }
 
 -- ---- the law
-pub printed-opens : (h : Header) → right h ≡ true → length (h .planes) ≡ layersMost → (body : List ℕ) → length body ≤ cellBytes * h .cells
+pub printed-opens : (h : Header) → wellFormed h ≡ true → length (h .planes) ≡ layersMost → (body : List ℕ) → length body ≤ cellBytes * h .cells
     → opening (headerText h ++ body) ≡ accepting h (length (headerText h))
 printed-opens h e full body fits = opening-of (headerText h ++ body) h (length (headerText h)) (printed-lines h (right-yes h e) full (headerText h ++ body) body refl fits)

@@ -15,14 +15,14 @@ use Rattle.sheet.specs.Limits.{pointsMost, levelsMost, layersMost, stepMost}
 use Rattle.sheet.specs.Sheet.{sheetOf}
 use Rattle.integers.proofs.Bools.{choice}
 use Rattle.text.specs.Text.{padded}
-use Rattle.text.specs.Line.{newline, before, lineAt}
+use Rattle.text.specs.Line.{newline, indexOf, lineAt}
 use Rattle.header.specs.declared.Header.{Header}
 use Rattle.header.specs.declared.Opened.{Opened}
 use Rattle.header.specs.declared.Refusal.{Refusal}
 use Rattle.header.specs.declared.Refusal.the-variants as R
 use Rattle.header.specs.Refusals.{refusal, detailsOf}
 use Rattle.header.specs.Header.{cellBytes, ascii}
-use Rattle.header.specs.Opening.{Opening, no, told, right, curveLine, curveOf, openingCells, openingPlanes, openingStep, openingCurve, openingLevels, openingCols, opening}
+use Rattle.header.specs.Opening.{Opening, notOpened, asOpening, wellFormed, curveLine, curveOf, openingCells, openingPlanes, openingStep, openingCurve, openingLevels, openingCols, opening}
 use Rattle.header.proofs.Turns.{turn, turn-planes}
 use Rattle.header.proofs.HeaderLines.{headed, Accepts, accepting}
 use Rattle.header.proofs.Opens.{opened-right}
@@ -30,9 +30,9 @@ use Rattle.header.proofs.Refusal.{the-type}
 
 pub data Answer : Opening → Type 0 where
   accepts : (h : Header) (long : ℕ) → Answer (accepting h long)
-  cut : Answer (no (refusal 5 0 0))
-  wrong : (line : ℕ) → 1 ≤ line → line ≤ 7 → Answer (no (refusal 6 line 0))
-  trailing : Answer (no (refusal 7 0 0))
+  cut : Answer (notOpened (refusal 5 0 0))
+  wrong : (line : ℕ) → 1 ≤ line → line ≤ 7 → Answer (notOpened (refusal 6 line 0))
+  trailing : Answer (notOpened (refusal 7 0 0))
 
 module _ (bs : List ℕ) where
   cells-answer : (h : Header) (at : ℕ) → Answer (openingCells bs h at)
@@ -43,7 +43,7 @@ module _ (bs : List ℕ) where
 
   planes-answer : (sh : Shape) (curve : Curve) (step at : ℕ) → Answer (openingPlanes bs sh curve step at)
   unfolding openingPlanes
-  planes-answer sh curve step at = turn-planes Answer sh (drop at bs) (λ planes n. openingCells bs (headed sh curve step planes) (at + n)) cut (wrong 6 (omega arith) (omega arith)) (λ counts _. cells-answer (headed sh curve step (padded layersMost counts)) (at + (before newline (drop at bs) + 1)))
+  planes-answer sh curve step at = turn-planes Answer sh (drop at bs) (λ planes n. openingCells bs (headed sh curve step planes) (at + n)) cut (wrong 6 (omega arith) (omega arith)) (λ counts _. cells-answer (headed sh curve step (padded layersMost counts)) (at + (indexOf newline (drop at bs) + 1)))
 
   step-answer : (sh : Shape) (curve : Curve) (at : ℕ) → Answer (openingStep bs sh curve at)
   unfolding openingStep
@@ -69,7 +69,7 @@ module _ (bs : List ℕ) where
   answers = turn Answer 1 (lineAt (ascii "rows=") 1 pointsMost bs) (openingCols bs) cut (wrong 1 (omega arith) (omega arith)) (λ rows n _. cols-answer rows n)
 
 -- beside a refusal the header is blank and the length 0
-pub refused-blank : {o : Opening} → Answer o → (Accepts o → ⊥) → o ≡ no (o .refused)
+pub refused-blank : {o : Opening} → Answer o → (Accepts o → ⊥) → o ≡ notOpened (o .refused)
 refused-blank (accepts h long) n = absurd (n refl)
 refused-blank cut n = refl
 refused-blank (wrong line l m) n = refl
@@ -92,9 +92,9 @@ refusing R.LimitBelowStep k e = omega arith
 refusing R.BadCoefficient k e = omega arith
 
 -- and beside the first the header is right
-module _ (bs : List ℕ) (o : Opened) (e : told o ≡ opening bs) (yes : o .refusal ≡ R.Accepted) where
+module _ (bs : List ℕ) (o : Opened) (e : asOpening o ≡ opening bs) (yes : o .refusal ≡ R.Accepted) where
   pub opened-accepts : Accepts (opening bs)
   opened-accepts = ap (λ (x : Opening). x .refused .number) (sym e) ∙ ap (λ (r : Refusal). detailsOf r .number) yes
 
-  pub header-right : right (o .header) ≡ true
-  header-right = ap (λ (x : Opening). right (x .header)) e ∙ opened-right bs opened-accepts .right-is
+  pub header-right : wellFormed (o .header) ≡ true
+  header-right = ap (λ (x : Opening). wellFormed (x .header)) e ∙ opened-right bs opened-accepts .right-is

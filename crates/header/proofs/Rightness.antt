@@ -1,4 +1,4 @@
--- What `right` says of a header, as facts on naturals: its tests one by one, both ways.
+-- What `wellFormed` says of a header, as facts on naturals: its tests one by one, both ways.
 use mathlib.Core.Bool.{Bool, true, not, _&&_}
 use mathlib.Core.List.{List}
 use mathlib.Core.Path.{_≡_}
@@ -18,9 +18,10 @@ use Rattle.sheet.proofs.Accepting.{accepted-yes}
 use Rattle.sheet.proofs.Lists.{tabulate-same}
 use Rattle.integers.proofs.Bools.{and-left, and-right, and-both, by, choice}
 use Rattle.header.specs.declared.Header.{Header}
-use Rattle.header.specs.Header.{placesMost, planesOf, planeCells, cellsAt, spansOf, cellsOf}
+use Rattle.header.specs.Header.{placesMost, planesOf, planeCells, cellsOf}
+use Rattle.header.specs.Workings.{cellsAt, spansOf, mostBy, limitsBy}
 use Rattle.header.specs.Plan.{firstOver}
-use Rattle.header.specs.Opening.{rightCounts, right, planesMost, mostBy, limitsBy}
+use Rattle.header.specs.Opening.{countsFit, wellFormed, planesMost}
 use Rattle.header.proofs.Cells.{cells-there, cells-past, span-listed}
 use Rattle.header.proofs.Over.{none-over, over-none}
 
@@ -67,13 +68,13 @@ module _ (sh : Shape) (planes : List ℕ) where
   abbrev none : Bool
   none = eqb (firstOver (planesMost sh) (λ k. getD planes k 0)) layersMost
 
-  pub counts-yes : rightCounts sh planes ≡ true → RightCounts sh planes
-  unfolding rightCounts
+  pub counts-yes : countsFit sh planes ≡ true → RightCounts sh planes
+  unfolding countsFit
   counts-yes e =
       record { shape = and-left (accepted sh) none e; counts = over-none (planesMost sh) (λ k. getD planes k 0) (eqb-true _ _ (and-right (accepted sh) none e)) }
 
-  pub counts-by : RightCounts sh planes → rightCounts sh planes ≡ true
-  unfolding rightCounts
+  pub counts-by : RightCounts sh planes → countsFit sh planes ≡ true
+  unfolding countsFit
   counts-by r = and-both (accepted sh) none (r .shape) (eq-eqb _ _ (none-over (planesMost sh) (λ k. getD planes k 0) (r .counts)))
 
   -- where there is a count for each layer there may be and no more, so at every place
@@ -96,13 +97,13 @@ module _ (h : Header) where
   small = leb (h .step) stepMost
 
   abbrev counted : Bool
-  counted = rightCounts (h .shape) (h .planes)
+  counted = countsFit (h .shape) (h .planes)
 
   abbrev total : Bool
   total = eqb (h .cells) (cellsOf (h .shape) (h .planes))
 
-  pub right-yes : right h ≡ true → Right h
-  unfolding right
+  pub right-yes : wellFormed h ≡ true → Right h
+  unfolding wellFormed
   right-yes e =
       let rest = and-right small (counted && total) e in
       let c = counts-yes (h .shape) (h .planes) (and-left counted total rest) in
@@ -113,15 +114,15 @@ module _ (h : Header) where
         cells = eqb-true _ _ (and-right counted total rest);
       }
 
-  pub right-by : Right h → right h ≡ true
-  unfolding right
+  pub right-by : Right h → wellFormed h ≡ true
+  unfolding wellFormed
   right-by r =
       and-both small (counted && total) (le-leb (h .step) stepMost (r .step))
       (and-both counted total (counts-by (h .shape) (h .planes) (record { shape = r .shape; counts = r .counts })) (eq-eqb _ _ (r .cells)))
 
 -- ---- what follows
 module _ {h : Header} (r : Right h) where
-  -- there is no line for a depth before request 10, and no shape of another depth is accepted
+  -- there is no line for a depth before stacks come, and no shape of another depth is accepted
   pub one-sheet : h .shape .depth ≡ 1
   one-sheet = let s = accepted-yes (h .shape) (r .shape) in omega (arith, s .thick, s .flat)
 
@@ -134,7 +135,7 @@ module _ {h : Header} (r : Right h) where
   pub few-planes : (k : ℕ) → k < layers (h .shape) → planesOf h k ≤ placesMost
   few-planes k l = counts-few k (omega (arith, layers-few))
 
-  -- "0 past the last"
+  -- 0 past the last
   pub counts-past : (k : ℕ) → layers (h .shape) ≤ k → k < layersMost → planesOf h k ≡ 0
   counts-past k p l = omega (arith, r .counts k l, most-past (h .shape) k p)
 

@@ -10,10 +10,10 @@ use borrow.Author.Tests.{lt-ltb, le-ltb}
 use Rattle.sheet.specs.declared.Curve.the-variants.{Linear, Cubic}
 use Rattle.text.specs.declared.Line.{Line}
 use Rattle.text.specs.declared.Line.the-variants.{Short, Wrong, Number}
-use Rattle.text.specs.Line.{newline, before, starts, hasEnd, lineAt}
+use Rattle.text.specs.Line.{newline, indexOf, starts, hasEnd, lineAt}
 use Rattle.text.proofs.Lines.{Written, written}
 use Rattle.header.specs.Header.{ascii, curveText}
-use Rattle.header.specs.Opening.{same, curveLine}
+use Rattle.header.specs.Opening.{isText, curveLine}
 use Rattle.header.proofs.CurveLine.{read-curve}
 
 module _ (key : List ℕ) (low high : ℕ) (l : List ℕ) where
@@ -25,7 +25,7 @@ starts-as key l e p = rw (← p) (sym e)
 
 -- a line that starts at a place of the bytes ends in them
 module _ (bs : List ℕ) (at : ℕ) (n : ℕ) where
-  ends : n ≡ before newline (drop at bs) + 1 → n ≤ length (drop at bs) → at + n ≤ length bs
+  ends : n ≡ indexOf newline (drop at bs) + 1 → n ≤ length (drop at bs) → at + n ≤ length bs
   ends e h = omega (arith, length-drop at bs)
 
   pub line-ends : (key : List ℕ) (low high v : ℕ) → lineAt key low high (drop at bs) ≡ Number v n → at + n ≤ length bs
@@ -38,25 +38,25 @@ module _ (bs : List ℕ) (at : ℕ) (n : ℕ) where
 
 -- ---- the line of the curve, by what its parts are
 
-pub same-as : (key l : List ℕ) {k : List ℕ} {r : Bool} → r ≡ same k l → k ≡ key → same key l ≡ r
+pub same-as : (key l : List ℕ) {k : List ℕ} {r : Bool} → r ≡ isText k l → k ≡ key → isText key l ≡ r
 same-as key l e p = rw (← p) (sym e)
 
-module _ (l : List ℕ) (m : ℕ) (is : m ≡ before newline l) where
+module _ (l : List ℕ) (m : ℕ) (is : m ≡ indexOf newline l) where
   pub curve-short : length l ≤ m → curveLine l ≡ Short
   unfolding curveLine hasEnd
   curve-short h = rw (← is) (simp (le-ltb m (length l) h))
 
   module _ (h : m < length l) where
-    pub curve-linear : same (ascii "curve=" ++ curveText Linear) (take m l) ≡ true → curveLine l ≡ Number 0 (m + 1)
+    pub curve-linear : isText (ascii "curve=" ++ curveText Linear) (take m l) ≡ true → curveLine l ≡ Number 0 (m + 1)
     unfolding curveLine hasEnd
     curve-linear e = rw (← is) (simp (lt-ltb m (length l) h, e))
 
-    module _ (d : same (ascii "curve=" ++ curveText Linear) (take m l) ≡ false) where
-      pub curve-cubic : same (ascii "curve=" ++ curveText Cubic) (take m l) ≡ true → curveLine l ≡ Number 1 (m + 1)
+    module _ (d : isText (ascii "curve=" ++ curveText Linear) (take m l) ≡ false) where
+      pub curve-cubic : isText (ascii "curve=" ++ curveText Cubic) (take m l) ≡ true → curveLine l ≡ Number 1 (m + 1)
       unfolding curveLine hasEnd
       curve-cubic e = rw (← is) (simp (lt-ltb m (length l) h, d, e))
 
-      pub curve-wrong : same (ascii "curve=" ++ curveText Cubic) (take m l) ≡ false → curveLine l ≡ Wrong
+      pub curve-wrong : isText (ascii "curve=" ++ curveText Cubic) (take m l) ≡ false → curveLine l ≡ Wrong
       unfolding curveLine hasEnd
       curve-wrong e = rw (← is) (simp (lt-ltb m (length l) h, d, e))
 

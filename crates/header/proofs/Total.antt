@@ -19,7 +19,8 @@ use Rattle.integers.proofs.Bools.{choice, and-left}
 use Rattle.sheet.proofs.Places.{size-most}
 use Rattle.sheet.proofs.Size.{layers-fill}
 use Rattle.header.specs.declared.Header.{Header}
-use Rattle.header.specs.Header.{placesMost, cellPoints, planeCellsMost, placeCellsMost, cellsMost, planeCells, cellsAt, spansOf, cellsOf}
+use Rattle.header.specs.Header.{placesMost, cellPoints, planeCells, cellsOf}
+use Rattle.header.specs.Workings.{planeCellsMost, placeCellsMost, cellsMost, cellsAt, spansOf}
 use Rattle.header.proofs.Cells.{span-listed, span-past}
 use Rattle.header.proofs.Rightness.{Right, counts-few, layers-few}
 

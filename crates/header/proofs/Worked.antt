@@ -1,4 +1,4 @@
--- The header of document 01's bench card, for the bench rows, which guarantee proves: a definition alone.
+-- The header of the bench card, for the bench rows, which guarantee proves: a definition alone.
 use mathlib.Core.List.{_∷_}
 use Prim.Native.Nat.{_-_}
 use lib.ListN.{replicate}
@@ -7,7 +7,7 @@ use Rattle.sheet.specs.Limits.{layersMost}
 use Rattle.sheet.specs.Sheet.{sheetOf}
 use Rattle.header.specs.declared.Header.{Header}
 
--- "1 by 5, L 1, linear, e 1 .. planes=5,1,0, cells=6"
+-- 1 by 5, one level, linear, step 1, counts 5,1,0, 6 cells
 abbrev pub benchHeader : Header
 benchHeader =
     record {

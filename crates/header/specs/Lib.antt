@@ -2,3 +2,4 @@ pub mod Refusals
 pub mod Header
 pub mod Plan
 pub mod Opening
+pub mod Workings

@@ -1,4 +1,9 @@
--- Opening a card (document 01, "When the box says no"): "Lines are taken in turn, 5 before 6 in each."
+-- Opening a card (docs/CARD.md, "Refusals", opening): the seven lines in turn, refusal 5 before 6 in each.
+--
+-- How a line hands on to the next: `taking n line go` is refusal 5 or 6 where line n does not end or is wrong; otherwise `go` goes on with the line's number
+-- and its length. Each of the seven takes its line from the byte `at` on, and hands all that is known by then to the next:
+--     opening (rows), openingCols, openingLevels, openingCurve, openingStep, openingPlanes, openingCells, which looks behind the last cell and ends it.
+-- A definition can name only those above it, so they stand from the last line to the first.
 use mathlib.Core.Bool.{Bool, cond, not, _&&_}
 use mathlib.Core.List.{List, _++_}
 use mathlib.Core.Option.{Option, none, some}
@@ -14,7 +19,7 @@ use Rattle.sheet.specs.Sheet.{accepted, sheetOf, layers, layerSize}
 use Rattle.text.specs.declared.Line.{Line}
 use Rattle.text.specs.declared.Line.the-variants as L
 use Rattle.text.specs.Text.{padded}
-use Rattle.text.specs.Line.{newline, before, starts, hasEnd, lineAt}
+use Rattle.text.specs.Line.{newline, indexOf, starts, hasEnd, lineAt}
 use Rattle.text.specs.Joined.{numbersIn}
 use Rattle.header.specs.declared.Header.{Header}
 use Rattle.header.specs.declared.Details.{Details}
@@ -29,8 +34,8 @@ pub record Opening : Type 0 where
   pub header : Header
   pub long : ℕ
 
-abbrev pub blank : Header
-blank =
+abbrev pub noHeader : Header
+noHeader =
     record {
       shape = record { depth = 0; rows = 0; cols = 0; levels = 0 };
       curve = Linear;
@@ -39,71 +44,64 @@ blank =
       cells = 0;
     }
 
-abbrev pub no : Details → Opening
-no d = record { refused = d; header = blank; long = 0 }
+abbrev pub notOpened : Details → Opening
+notOpened d = record { refused = d; header = noHeader; long = 0 }
 
--- the code's answer in these terms
-abbrev pub told : Opened → Opening
-told o = record { refused = detailsOf (o .refusal); header = o .header; long = o .length }
+-- the code's answer as such a record
+abbrev pub asOpening : Opened → Opening
+asOpening o = record { refused = detailsOf (o .refusal); header = o .header; long = o .length }
 
--- ---- a line in turn: "5, bytes end before a line's byte 10. 6, a line is wrong (detail: line 1 to 7; ..)"
+-- ---- line n in turn: refusal 5 where it does not end, 6 where it is wrong (which line)
 abbrev pub taking : ℕ → Line → (ℕ → ℕ → Opening) → Opening
-taking n L.Short go = no (refusal 5 0 0)
-taking n L.Wrong go = no (refusal 6 n 0)
+taking n L.Short go = notOpened (refusal 5 0 0)
+taking n L.Wrong go = notOpened (refusal 6 n 0)
 taking n (L.Number v long) go = go v long
 
 -- is a text just this key?
-abbrev pub same : List ℕ → List ℕ → Bool
-same key l = starts key l && eqb (length key) (length l)
+abbrev pub isText : List ℕ → List ℕ → Bool
+isText key l = starts key l && eqb (length key) (length l)
 
 -- ---- line 4: 0 for linear and 1 for cubic
 unfoldable pub curveLine : List ℕ → Line
 curveLine l =
     cond (hasEnd l)
-    (cond (same (ascii "curve=" ++ curveText Linear) (take (before newline l) l)) (L.Number 0 (before newline l + 1))
-    (cond (same (ascii "curve=" ++ curveText Cubic) (take (before newline l) l)) (L.Number 1 (before newline l + 1))
+    (cond (isText (ascii "curve=" ++ curveText Linear) (take (indexOf newline l) l)) (L.Number 0 (indexOf newline l + 1))
+    (cond (isText (ascii "curve=" ++ curveText Cubic) (take (indexOf newline l) l)) (L.Number 1 (indexOf newline l + 1))
     L.Wrong))
     L.Short
 
 abbrev pub curveOf : ℕ → Curve
 curveOf v = cond (eqb v 0) Linear Cubic
 
--- ---- line 6: "planes (the P_k, commas between)"; wrong are "a count over 23, a wrong number of counts or a count above 0 for an empty layer"
--- the most planes that layer k may have; none past the last layer
+-- ---- line 6: one count for each layer, each at most its limit
+-- the most planes that layer k may have: none where it is empty, and none past the last
 unfoldable pub planesMost : Shape → ℕ → ℕ
 planesMost sh k = cond (ltb k (layers sh) && not (eqb (layerSize sh k) 0)) placesMost 0
 
--- so there is one count for each layer, and each has its limit
+-- the limits of a shape's layers
 unfoldable pub limits : Shape → List ℕ
 limits sh = tabulate (layers sh) (planesMost sh)
 
--- the same by the cells that one plane of each layer spans, for each layer there may be
-unfoldable pub mostBy : ℕ → ℕ
-mostBy span = cond (eqb span 0) 0 placesMost
-
-unfoldable pub limitsBy : List ℕ → List ℕ
-limitsBy spans = tabulate layersMost (λ k. mostBy (getD spans k 0))
-
 -- a header keeps a count for each layer there may be, 0 past the last
 abbrev pub counted : Option (List ℕ) → (List ℕ → Opening) → Opening
-counted none go = no (refusal 6 6 0)
+counted none go = notOpened (refusal 6 6 0)
 counted (some counts) go = go (padded layersMost counts)
 
 abbrev pub takingPlanes : Shape → List ℕ → (List ℕ → ℕ → Opening) → Opening
 takingPlanes sh l go =
     cond (hasEnd l)
-    (cond (starts (ascii "planes=") (take (before newline l) l))
-    (counted (numbersIn (limits sh) (drop (length (ascii "planes=")) (take (before newline l) l))) (λ planes. go planes (before newline l + 1)))
-    (no (refusal 6 6 0)))
-    (no (refusal 5 0 0))
+    (cond (starts (ascii "planes=") (take (indexOf newline l) l))
+    (counted (numbersIn (limits sh) (drop (length (ascii "planes=")) (take (indexOf newline l) l))) (λ planes. go planes (indexOf newline l + 1)))
+    (notOpened (refusal 6 6 0)))
+    (notOpened (refusal 5 0 0))
 
--- ---- the lines in turn, each from the byte `at` on; from the last to the first, since each hands on to the next
--- "a wrong total to line 7"; then "7, bytes follow the last cell"
+-- ---- the lines, from the last to the first
+-- line 7 names the cells that the counts make; then refusal 7, bytes behind the last cell
 unfoldable pub openingCells : List ℕ → Header → ℕ → Opening
 openingCells bs h at =
     taking 7 (lineAt (ascii "cells=") (h .cells) (h .cells) (drop at bs)) (λ _ n.
     cond (ltb (at + n + cellBytes * h .cells) (length bs))
-    (no (refusal 7 0 0))
+    (notOpened (refusal 7 0 0))
     (record { refused = refusal 0 0 0; header = h; long = at + n }))
 
 unfoldable pub openingPlanes : List ℕ → Shape → Curve → ℕ → ℕ → Opening
@@ -122,21 +120,17 @@ openingLevels bs rows cols at =
     taking 3 (lineAt (ascii "levels=") 0 levelsMost (drop at bs)) (λ levels n.
     openingCurve bs (sheetOf rows cols levels) (at + n))
 
--- "the product of sizes to line 2": at most so many columns that the points are at most 8,192
+-- line 2: at most so many columns that the points are at most 8,192
 unfoldable pub openingCols : List ℕ → ℕ → ℕ → Opening
 openingCols bs rows at = taking 2 (lineAt (ascii "cols=") 1 (pointsMost / rows) (drop at bs)) (λ cols n. openingLevels bs rows cols (at + n))
 
 unfoldable pub opening : List ℕ → Opening
 opening bs = taking 1 (lineAt (ascii "rows=") 1 pointsMost bs) (openingCols bs)
 
--- ---- a header that opening can give
+-- ---- a header that opening can give: every one that it gives is well-formed (`header`, proofs/Refusing, `header-right`)
 -- are these a shape that is accepted and counts that a header of it may have?
-unfoldable pub rightCounts : Shape → List ℕ → Bool
-rightCounts sh planes = accepted sh && eqb (firstOver (planesMost sh) (λ k. getD planes k 0)) layersMost
+unfoldable pub countsFit : Shape → List ℕ → Bool
+countsFit sh planes = accepted sh && eqb (firstOver (planesMost sh) (λ k. getD planes k 0)) layersMost
 
-unfoldable pub right : Header → Bool
-right h = leb (h .step) stepMost && (rightCounts (h .shape) (h .planes) && eqb (h .cells) (cellsOf (h .shape) (h .planes)))
-
--- the cells that counts name; 0 where they are not right
-unfoldable pub cellsNamed : Shape → List ℕ → ℕ
-cellsNamed sh planes = cond (rightCounts sh planes) (cellsOf sh planes) 0
+unfoldable pub wellFormed : Header → Bool
+wellFormed h = leb (h .step) stepMost && (countsFit (h .shape) (h .planes) && eqb (h .cells) (cellsOf (h .shape) (h .planes)))

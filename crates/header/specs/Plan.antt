@@ -1,4 +1,5 @@
--- Plans (document 01): "A plan is 13 numbers: planes loaded from the top for each layer, 0 past the last."
+-- Plans (docs/CARD.md, "Plans, reading, refining"): 13 numbers, the planes loaded of each layer from its top one down, 0 past the last.
+-- Calls hand over a `Plan`, planning lists its counts, and where only the count of a layer is asked a plan is a function (`loads plan`).
 use mathlib.Core.Bool.{cond, _&&_}
 use Prim.Native.Nat.{ℕ, _+_, _^_}
 use lib.Dec.{ltb}

@@ -1,4 +1,4 @@
--- When the box says no (document 01): "A refusal is a number with two details (0, 0 unless said)".
+-- Refusals (docs/CARD.md, "Refusals"): a number with two details, 0 where nothing is said of them.
 use Prim.Native.Nat.{ℕ}
 use Rattle.header.specs.declared.Refusal.{Refusal}
 use Rattle.header.specs.declared.Refusal.the-variants as R
@@ -7,7 +7,7 @@ use Rattle.header.specs.declared.Details.{Details}
 abbrev pub refusal : ℕ → ℕ → ℕ → Details
 refusal number first second = record { number = number; first = first; second = second }
 
--- document 01's number and details of each answer; 0 is no refusal
+-- the number and the details of each answer; 0 is no refusal
 abbrev pub detailsOf : Refusal → Details
 detailsOf R.Accepted = refusal 0 0 0
 detailsOf R.BadSize = refusal 1 0 0

@@ -1,7 +1,7 @@
 // A card's header: its text, opening any bytes, and the planes that it names; refusals and plans.
 ghost use mathlib.Core.Path.{_≡_};
 ghost use Rattle.header.specs.Refusals as R;
-ghost use Rattle.header.specs.Header as Hd;
+ghost use Rattle.header.specs.Workings as W;
 ghost use Rattle.header.specs.Plan as P;
 
 mod opening;
@@ -10,7 +10,7 @@ mod printing;
 
 pub use opening::open;
 pub use planes::first_over;
-pub use planes::is_right;
+pub use planes::is_well_formed;
 pub use planes::plane_cells;
 use planes::spans_of;
 pub use planes::total_cells;
@@ -20,7 +20,7 @@ pub use sheet::MOST_LAYERS;
 use sheet::MOST_POINTS;
 use sheet::Shape;
 
-// Document 01's sizes of a card: digits of a coefficient, the bytes of a cell and the points that it holds.
+// The sizes of a card: digits of a coefficient, the bytes of a cell and the points that it holds.
 pub const MOST_PLACES: u64 = 23;
 
 pub const CELL_BYTES: usize = 32;
@@ -35,7 +35,7 @@ pub const MOST_CELLS: usize = MOST_PLACES as usize * MOST_PLACE_CELLS;
 // Room for any header's text.
 pub const MOST_TEXT: usize = 512;
 
-// Document 01's refusals; `details_of` gives their numbers.
+// Why a call is refused; `details_of` gives their numbers.
 pub enum Refusal {
     Accepted,
     BadSize,
@@ -51,7 +51,7 @@ pub enum Refusal {
     BadCoefficient,
 }
 
-// A refusal as document 01 writes it: a number with two details.
+// A refusal by number, with two details.
 pub struct Details {
     pub number: u64,
     pub first: u64,
@@ -85,7 +85,7 @@ pub struct HeaderText {
     pub length: usize,
 }
 
-// Document 01's number and details of a refusal.
+// The number and details of a refusal.
 pub fn details_of(refusal: Refusal) -> Details
     ensures { λ r. ⌜ r ≡ R.detailsOf refusal ⌝ }
 {
@@ -174,7 +174,7 @@ impl Plan {
 impl Header {
     // The cells that one plane of each layer spans.
     pub fn spans(self) -> [u64; MOST_LAYERS]
-        ensures { λ r. ⌜ r ≡ Hd.spansOf (self .shape) ⌝ }
+        ensures { λ r. ⌜ r ≡ W.spansOf (self .shape) ⌝ }
     {
         spans_of(self.shape)
     }

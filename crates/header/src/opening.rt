@@ -23,7 +23,7 @@ use sheet::Shape;
 use text::Line;
 
 fn refused(refusal: Refusal) -> Opened
-    ensures { λ r. ⌜ O.told r ≡ O.no (R.detailsOf refusal) ⌝ }
+    ensures { λ r. ⌜ O.asOpening r ≡ O.notOpened (R.detailsOf refusal) ⌝ }
 {
     Opened {
         refusal,
@@ -46,7 +46,7 @@ fn refused(refusal: Refusal) -> Opened
 // Line 7, and what follows it.
 fn open_cells(bytes: &[u8], header: Header, at: usize) -> Opened
     requires { ⌜ header .cells ≤ 2 ^ 32 ⌝ }
-    ensures { λ r. ⌜ O.told r ≡ O.openingCells (now (bytes .entry)) header at ⌝ }
+    ensures { λ r. ⌜ O.asOpening r ≡ O.openingCells (now (bytes .entry)) header at ⌝ }
 {
     let cells = header.cells;
     match text::read_line(bytes, at, b"cells=", cells, cells) {
@@ -72,7 +72,7 @@ const COUNTS_AT: usize = 7;
 // Line 6.
 fn open_planes(bytes: &[u8], shape: Shape, curve: Curve, step: u64, at: usize) -> Opened
     requires { ⌜ S.accepted shape ≡ true ⌝ }
-    ensures { λ r. ⌜ O.told r ≡ O.openingPlanes (now (bytes .entry)) shape curve step at ⌝ }
+    ensures { λ r. ⌜ O.asOpening r ≡ O.openingPlanes (now (bytes .entry)) shape curve step at ⌝ }
 {
     let end = text::find(bytes, at, b'\n');
     if bytes.len() <= end {
@@ -105,7 +105,7 @@ fn open_planes(bytes: &[u8], shape: Shape, curve: Curve, step: u64, at: usize) -
 // Line 5.
 fn open_step(bytes: &[u8], shape: Shape, curve: Curve, at: usize) -> Opened
     requires { ⌜ S.accepted shape ≡ true ⌝ }
-    ensures { λ r. ⌜ O.told r ≡ O.openingStep (now (bytes .entry)) shape curve at ⌝ }
+    ensures { λ r. ⌜ O.asOpening r ≡ O.openingStep (now (bytes .entry)) shape curve at ⌝ }
 {
     match text::read_line(bytes, at, b"step=", 0, MOST_STEP) {
         Line::Short => refused(Refusal::HeaderCut),
@@ -116,7 +116,7 @@ fn open_step(bytes: &[u8], shape: Shape, curve: Curve, at: usize) -> Opened
 
 // Is a text just this key?
 fn is_text(line: &[u8], key: &[u8]) -> bool
-    ensures { λ r. ⌜ r ≡ O.same (now (key .entry)) (now (line .entry)) ⌝ }
+    ensures { λ r. ⌜ r ≡ O.isText (now (key .entry)) (now (line .entry)) ⌝ }
 {
     if text::starts_with(line, key) {
         return key.len() == line.len();
@@ -161,7 +161,7 @@ fn curve_of(value: u64) -> Curve
 // Line 4.
 fn open_curve(bytes: &[u8], shape: Shape, at: usize) -> Opened
     requires { ⌜ S.accepted shape ≡ true ⌝ }
-    ensures { λ r. ⌜ O.told r ≡ O.openingCurve (now (bytes .entry)) shape at ⌝ }
+    ensures { λ r. ⌜ O.asOpening r ≡ O.openingCurve (now (bytes .entry)) shape at ⌝ }
 {
     match curve_line(bytes, at) {
         Line::Short => refused(Refusal::HeaderCut),
@@ -176,7 +176,7 @@ fn open_curve(bytes: &[u8], shape: Shape, at: usize) -> Opened
 // Line 3.
 fn open_levels(bytes: &[u8], rows: u64, cols: u64, at: usize) -> Opened
     requires { ⌜ (1 ≤ rows) × (1 ≤ cols) × (rows * cols ≤ pointsMost) ⌝ }
-    ensures { λ r. ⌜ O.told r ≡ O.openingLevels (now (bytes .entry)) rows cols at ⌝ }
+    ensures { λ r. ⌜ O.asOpening r ≡ O.openingLevels (now (bytes .entry)) rows cols at ⌝ }
 {
     match text::read_line(bytes, at, b"levels=", 0, MOST_LEVELS as u64) {
         Line::Short => refused(Refusal::HeaderCut),
@@ -191,7 +191,7 @@ fn open_levels(bytes: &[u8], rows: u64, cols: u64, at: usize) -> Opened
 // Line 2: the points are at most 8,192.
 fn open_cols(bytes: &[u8], rows: u64, at: usize) -> Opened
     requires { ⌜ (1 ≤ rows) × (rows ≤ pointsMost) ⌝ }
-    ensures { λ r. ⌜ O.told r ≡ O.openingCols (now (bytes .entry)) rows at ⌝ }
+    ensures { λ r. ⌜ O.asOpening r ≡ O.openingCols (now (bytes .entry)) rows at ⌝ }
 {
     match text::read_line(bytes, at, b"cols=", 1, MOST_POINTS as u64 / rows) {
         Line::Short => refused(Refusal::HeaderCut),
@@ -202,7 +202,7 @@ fn open_cols(bytes: &[u8], rows: u64, at: usize) -> Opened
 
 // Opens any bytes: the header, or the first thing that is wrong.
 pub fn open(bytes: &[u8]) -> Opened
-    ensures { λ r. ⌜ O.told r ≡ O.opening (now (bytes .entry)) ⌝ }
+    ensures { λ r. ⌜ O.asOpening r ≡ O.opening (now (bytes .entry)) ⌝ }
 {
     match text::read_line(bytes, 0, b"rows=", 1, MOST_POINTS as u64) {
         Line::Short => refused(Refusal::HeaderCut),

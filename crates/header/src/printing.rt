@@ -5,6 +5,7 @@ ghost use lib.ListN.{length};
 ghost use lib.Seq.{sets};
 ghost use Rattle.text.specs.Line as L;
 ghost use Rattle.header.specs.Header as Hd;
+ghost use Rattle.header.specs.Workings as W;
 use crate::Header;
 use crate::HeaderText;
 use crate::MOST_TEXT;
@@ -33,7 +34,7 @@ fn put_curve(out: &mut [u8], at: usize, curve: Curve) -> usize
 
 // Puts the seven lines, in a slice with room for any header, and answers their length.
 fn put_header(out: &mut [u8], header: Header) -> usize
-    requires { ⌜ Hd.textMost ≤ length (now out) ⌝ }
+    requires { ⌜ W.textMost ≤ length (now out) ⌝ }
     ensures { λ r. ⌜ (r ≡ length (Hd.headerText header)) × (now (out .exit) ≡ sets (now (out .entry)) 0 (Hd.headerText header)) ⌝ }
 {
     let shape = header.shape;
@@ -58,7 +59,7 @@ fn put_header(out: &mut [u8], header: Header) -> usize
 
 // The text of a header.
 pub fn header_text(header: Header) -> HeaderText
-    ensures { λ r. ⌜ r ≡ Hd.textOf header ⌝ }
+    ensures { λ r. ⌜ r ≡ W.textOf header ⌝ }
 {
     let mut bytes = [0u8; MOST_TEXT];
     let length = put_header(&mut bytes, header);

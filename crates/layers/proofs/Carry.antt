@@ -16,8 +16,10 @@ use Rattle.sheet.specs.declared.Curve.{Curve}
 use Rattle.sheet.specs.declared.Curve.the-variants.{Linear, Cubic}
 use Rattle.sheet.specs.Sheet.{accepted, layers}
 use Rattle.layers.specs.Prediction.{linear, cubic}
-use Rattle.layers.specs.Layering.{Carries, layering}
-use Rattle.layers.specs.Carry.{carried, carry, Between, lowCarried, highCarried}
+use Rattle.layers.specs.Layering.{layering}
+use Rattle.layers.proofs.Proper.{Carries}
+use Rattle.layers.specs.Carry.{carried, carry}
+use Rattle.layers.proofs.Ends.{Between, lowCarried, highCarried}
 use Rattle.layers.proofs.Point.{linear-near, cubic-near}
 use Rattle.layers.proofs.SheetLaw.{Rule, sheet-carries}
 

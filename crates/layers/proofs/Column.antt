@@ -20,10 +20,11 @@ use Rattle.sheet.specs.declared.Shape.{Shape}
 use Rattle.sheet.specs.declared.Curve.{Curve}
 use Rattle.sheet.specs.declared.Direction.{Direction}
 use Rattle.sheet.specs.declared.Direction.the-variants.{Anchor, Across, Down, Between}
-use Rattle.sheet.specs.Sheet.{accepted, points, directions, layers, turn, member, direction, spacing, inLayer, laid}
+use Rattle.sheet.specs.Sheet.{accepted, points, directions, layers, turn, member, direction, spacing, inLayer}
+use Rattle.sheet.specs.Workings.Shapes.{laid}
 use Rattle.layers.specs.Prediction.{line, predicted, predictedAt}
 use Rattle.layers.specs.Layering.{Layering, layering, pointBy, layerBy, valuesBy, alongside, blank, reads, writes, makes, rebuilt, written, coefs}
-use Rattle.layers.specs.Loops.{Samples}
+use Rattle.layers.specs.Workings.Loops.{Samples}
 use Rattle.integers.proofs.Bools.{by, and-no-left, and-no-right}
 use Rattle.sheet.proofs.Accepting.{accepted-yes, accepted-by, two-three}
 use Rattle.sheet.proofs.Earlier.{mult, odd, even-not-odd}

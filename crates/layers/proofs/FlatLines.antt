@@ -1,4 +1,4 @@
--- At depth 1 a point is predicted along its row or its column, as document 01 has it: both start in sheet 0.
+-- At depth 1 a point is predicted along its row or its column: both start in sheet 0.
 use mathlib.Core.Path.{_≡_, ap}
 use mathlib.Core.List.{List}
 use Prim.Native.Nat.{ℕ, _*_}

@@ -19,3 +19,6 @@ pub mod Neighbours
 pub mod Results
 pub mod Prefix
 pub mod Answers
+pub mod Proper
+pub mod Ends
+pub mod AtPoint

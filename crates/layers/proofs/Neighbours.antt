@@ -16,8 +16,9 @@ use Rattle.sheet.specs.declared.Direction.the-variants.{Anchor, Across, Down, B
 use Rattle.sheet.specs.Limits.{pointsMost}
 use Rattle.sheet.specs.Sheet.{points, place, member, direction, spacing}
 use Rattle.layers.specs.Prediction.{line, predicted}
-use Rattle.layers.specs.Layering.{layering, known}
-use Rattle.layers.specs.Loops.{crossingOf, crosses, AtPoint, OnLine, Below, valueMost}
+use Rattle.layers.specs.Layering.{layering}
+use Rattle.layers.specs.Workings.Loops.{known, crossingOf, crosses, OnLine, Below, valueMost}
+use Rattle.layers.proofs.AtPoint.{AtPoint}
 use Rattle.sheet.proofs.Accepting.{Sheet, accepted-yes}
 use Rattle.sheet.proofs.Fits.{place-in, on-row, on-column, on-depth, rows-small, cols-small, depth-small, spacing-some, spacing-small}
 use Rattle.sheet.proofs.Earlier.{Looks}

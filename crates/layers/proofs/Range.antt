@@ -23,7 +23,7 @@ use Rattle.sheet.specs.Sheet.{accepted, points, place, layers, has, inLayer, di
 use Rattle.layers.specs.Prediction.{width, rebuiltFrom, predicted, predictedAt}
 use Rattle.layers.specs.Layering.{layering, valuesBy, blank, reads, writes, coefs}
 use Rattle.layers.specs.Carry.{carried, carry}
-use Rattle.layers.specs.Loops.{writtenMost, predictedMost, valueMost, Below, Samples}
+use Rattle.layers.specs.Workings.Loops.{writtenMost, predictedMost, valueMost, Below, Samples}
 use Rattle.sheet.proofs.Rises.{rises}
 use Rattle.sheet.proofs.Accepting.{accepted-yes, layers-few}
 use Rattle.sheet.proofs.Fits.{place-in}
@@ -92,7 +92,7 @@ module _ {sh : Shape} {e : ℕ} {xs : List ℤ} (ok : Samples sh e xs) (curve : 
       (coefficient-range (at xs p) (Y .predict (j .0) (valuesBy Y (writes e xs) (blank Y) (j .0)) p) e (ok .small p hp)
       (predicted-small (blank Y) (length-blank Y) (j .0) (j .1) p hp (j .2)))
 
-  -- "23 digits reach from -2,796,202 to 5,592,405, enough for every accepted sheet"
+  -- 23 digits, from -2,796,202 to 5,592,405, are enough for every sheet that is accepted
   pub coefs-reach : (p : ℕ) → p < points sh → (down (at (coefs (layering sh curve) e xs) p) ≤ 2796202) × (up (at (coefs (layering sh curve) e xs) p) ≤ 5592405)
   coefs-reach p hp = let w = coefs-small p hp in (omega arith, omega arith)
 

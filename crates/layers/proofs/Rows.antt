@@ -19,7 +19,8 @@ use Rattle.sheet.specs.declared.Grid.{Grid}
 use Rattle.sheet.specs.Limits.{pointsMost}
 use Rattle.sheet.specs.Lists.{at, tabulate}
 use Rattle.sheet.specs.Sheet.{points, place, direction, spacing, inLayer}
-use Rattle.layers.specs.Loops.{inRow, inSheet, Below, AtLayer, AtSheet, AtRow, AtPoint}
+use Rattle.layers.specs.Workings.Loops.{inRow, inSheet, Below, AtLayer, AtSheet, AtRow}
+use Rattle.layers.proofs.AtPoint.{AtPoint}
 use Rattle.integers.proofs.Bools.{and-no-right, cond-yes}
 use Rattle.sheet.proofs.Accepting.{Sheet, accepted-yes}
 use Rattle.sheet.proofs.Fits.{place-in}

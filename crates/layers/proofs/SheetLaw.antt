@@ -21,8 +21,9 @@ use Rattle.sheet.specs.declared.Direction.the-variants.{Anchor, Across, Down, B
 use Rattle.sheet.specs.Lists.{at}
 use Rattle.sheet.specs.Sheet.{accepted, points, place, directions, layers, member, direction, spacing, has, inLayer}
 use Rattle.layers.specs.Prediction.{linear, cubic, on, usesFour, line, predicted, predictedAt}
-use Rattle.layers.specs.Layering.{Proper, Carries, layering}
-use Rattle.layers.specs.Layering as Y
+use Rattle.layers.specs.Layering.{layering}
+use Rattle.layers.proofs.Proper.{Proper, Carries}
+use Rattle.layers.specs.Workings.Loops as W
 use Rattle.sheet.proofs.Accepting.{accepted-yes}
 use Rattle.integers.proofs.Bools.{and-left, and-right, by, cond-rel}
 use Rattle.sheet.proofs.Parity.{odd-after, odd-after-3, odd-before, odd-before-3}
@@ -88,14 +89,14 @@ module _ (curve : Curve) (R R′ : ℤ → ℤ → Type 0) (rule : Rule curve R 
       line-rel (place sh 0 r c) (sh .rows * sh .cols) (sh .depth) z s some (between-odd s z r c m) hz
       (λ u hu even. rw (on-depth sh r c u) (rel u r c hu hr hc (even, refl, refl)))
 
-pub known-is : (sh : Shape) (curve : Curve) (k p : ℕ) → Y.known (layering sh curve) k p ≡ known sh k (p / sh .cols / sh .rows) (p / sh .cols % sh .rows) (p % sh .cols)
-unfolding Y.known known inLayer
+pub known-is : (sh : Shape) (curve : Curve) (k p : ℕ) → W.known (layering sh curve) k p ≡ known sh k (p / sh .cols / sh .rows) (p / sh .cols % sh .rows) (p % sh .cols)
+unfolding W.known known inLayer
 known-is sh curve zero p = refl
 known-is sh curve (suc k) p = ap (λ (t : Bool). t || has sh k (p / sh .cols / sh .rows) (p / sh .cols % sh .rows) (p % sh .cols)) (known-is sh curve k p)
 
 -- what a point of a layer looks at is known before that layer
 pub looks-at : (sh : Shape) (curve : Curve) (k z r c z′ r′ c′ : ℕ) → k < layers sh → has sh k z r c ≡ true → z′ < sh .depth → r′ < sh .rows → c′ < sh .cols
-    → Looks (direction sh k) (spacing sh k) z r c z′ r′ c′ → Y.known (layering sh curve) k (place sh z′ r′ c′) ≡ true
+    → Looks (direction sh k) (spacing sh k) z r c z′ r′ c′ → W.known (layering sh curve) k (place sh z′ r′ c′) ≡ true
 looks-at sh curve k z r c z′ r′ c′ hk m hz hr hc lo =
     known-is sh curve k (place sh z′ r′ c′)
     ∙ rw (digits-div (z′ * sh .rows + r′) hc, digits-mod (z′ * sh .rows + r′) hc, digits-div z′ hr, digits-mod z′ hr) (looks-known sh k z r c z′ r′ c′ hk hz m lo)

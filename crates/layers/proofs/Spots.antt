@@ -11,7 +11,7 @@ use Rattle.sheet.specs.declared.Grid.{Grid}
 use Rattle.sheet.specs.Sheet.{accepted, place, layers, direction, spacing, has, inLayer}
 use Rattle.layers.specs.Prediction.{predicted, predictedAt}
 use Rattle.layers.specs.Layering.{layering, pointBy}
-use Rattle.layers.specs.Loops.{AtPoint}
+use Rattle.layers.proofs.AtPoint.{AtPoint}
 use Rattle.sheet.proofs.OnGrid.{inside}
 
 -- a point of layer k

@@ -44,7 +44,7 @@ module _ (sh : Shape) (curve : Curve) (own : ℕ → ℕ) where
       (λ e. rw (standing-empty k (eqb-true (layerSize sh k) 0 e)) (le-refl _))
       (λ e. rw (standing-more k (eqb-false (layerSize sh k) 0 e)) (omega (arith, carried-up curve (standing sh curve own k))))
 
--- "Start with loss × w of layer 0"
+-- after layer 0 its own loss × w stands
 first-some : (sh : Shape) → accepted sh ≡ true → layerSize sh 0 ≡ 0 → ⊥
 first-some sh ok z =
     let s = accepted-yes sh ok in

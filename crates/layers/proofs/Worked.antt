@@ -1,4 +1,4 @@
--- The bench sheet of document 01 (1 by 5, one level, linear, step 1) and the roundings beside it, by computation.
+-- The bench sheet (1 by 5, one level, linear, step 1) and the roundings beside it, by computation.
 use mathlib.Core.Path.{_≡_, refl}
 use mathlib.Core.List.{List, [], _∷_}
 use lib.IntN.{ℤ, pos, negsuc}
@@ -32,7 +32,7 @@ pub bench-written : written (layering benchShape Linear) 1 benchSamples ≡ benc
 unfolding written valuesBy layerBy tabulate pointBy inLayer directions spacing ceilDiv predictedAt line linear coefficientOf rebuiltFrom floorDiv width
 bench-written = refl
 
--- for request 10: a stack of three sheets of 1 by 3, one level, linear, step 1: the anchors stand at the corners, and the middle sheet is the layer between
+-- for stacks to come: a stack of three sheets of 1 by 3, one level, linear, step 1: the anchors stand at the corners, and the middle sheet is the layer between
 abbrev pub stackShape : Shape
 stackShape = record { depth = 3; rows = 1; cols = 3; levels = 1 }
 
@@ -53,12 +53,12 @@ pub stack-written : written (layering stackShape Linear) 1 stackSamples ≡ stac
 unfolding written valuesBy layerBy tabulate pointBy inLayer directions spacing ceilDiv predictedAt line linear coefficientOf rebuiltFrom floorDiv width
 stack-written = refl
 
--- "Cubic of 0, -1, 0, 0 is -1": -9 / 16, rounded down
+-- the cubic of 0, -1, 0 and 0 is -1: -9 / 16 rounded down
 pub cubic-down : cubic (pos 0) (negsuc 0) (pos 0) (pos 0) ≡ negsuc 0
 unfolding cubic floorDiv
 cubic-down = refl
 
--- "Carried cubically, 4 becomes 5, then 7"
+-- carried cubically, 4 becomes 5, and 5 becomes 7
 pub carried-twice : (carried Cubic 4 ≡ 5) × (carried Cubic 5 ≡ 7)
 unfolding carried ceilDiv
 carried-twice = (refl, refl)

@@ -1,9 +1,9 @@
--- Points in layers, each predicted from the values of the layers before its own: what writing and reading do, whatever the points, the
--- layers and the prediction. A sheet is one such layering (`layering`).
-use mathlib.Core.Bool.{Bool, true, false, cond, _||_}
+-- All coefficients and all values (docs/CARD.md, "Coefficients"; "Plans, reading, refining"): points in layers, each predicted from the values of the
+-- layers before its own. This is said of any points, layers and prediction, so that laws need not speak of rows and columns; a
+-- sheet is the one layering that is made (`layering`).
+use mathlib.Core.Bool.{Bool, cond}
 use mathlib.Core.List.{List}
-use mathlib.Core.Path.{_≡_}
-use Prim.Native.Nat.{ℕ, zero, suc, _<_}
+use Prim.Native.Nat.{ℕ, zero, suc}
 use lib.IntN.{ℤ, pos}
 use lib.ListN.{length, replicate}
 use Rattle.sheet.specs.declared.Shape.{Shape}
@@ -24,12 +24,7 @@ pub record Layering : Type 0 where
 abbrev pub layering : Shape → Curve → Layering
 layering sh curve = record { points = points sh; layers = layers sh; mem = inLayer sh; predict = predictedAt sh curve }
 
--- does the point p stand in one of the first k layers?
-unfoldable pub known : Layering → ℕ → ℕ → Bool
-known Y zero p = false
-known Y (suc k) p = known Y k p || Y .mem k p
-
--- the layer that the point p stands in, among the first k
+-- the layer that the point p stands in, among the first k; 0 where there is none
 unfoldable pub lastIn : Layering → ℕ → ℕ → ℕ
 lastIn Y zero p = 0
 lastIn Y (suc k) p = cond (Y .mem k p) k (lastIn Y k p)
@@ -53,7 +48,7 @@ unfoldable pub valuesBy : Layering → (ℤ → ℕ → ℤ) → List ℤ → �
 valuesBy Y g vs zero = vs
 valuesBy Y g vs (suc k) = let w = valuesBy Y g vs k in layerBy Y k g w w
 
--- what else is made at each point as the values are: h gives it from the same prediction
+-- a second number for each point, made beside its value from the same prediction: in writing, the coefficient
 unfoldable pub alongside : Layering → (ℤ → ℕ → ℤ) → (ℤ → ℕ → ℤ) → List ℤ → List ℤ → ℕ → List ℤ
 alongside Y g h vs qs zero = qs
 alongside Y g h vs qs (suc k) = layerBy Y k h (valuesBy Y g vs k) (alongside Y g h vs qs k)
@@ -69,7 +64,7 @@ reads e qs y p = rebuiltFrom y (at qs p) e
 unfoldable pub rebuilt : Layering → ℕ → List ℤ → List ℤ
 rebuilt Y e qs = valuesBy Y (reads e qs) (blank Y) (Y .layers)
 
--- writing: a point's coefficient from its sample, and its value from the coefficient. "The writer predicts from rebuilt values, never from readings."
+-- writing: a point's coefficient from its sample, and its value from the coefficient. What is predicted comes from rebuilt values, never from samples
 abbrev pub makes : ℕ → List ℤ → ℤ → ℕ → ℤ
 makes e xs y p = coefficientOf (at xs p) y e
 
@@ -81,15 +76,3 @@ written Y e xs = valuesBy Y (writes e xs) (blank Y) (Y .layers)
 
 unfoldable pub coefs : Layering → ℕ → List ℤ → List ℤ
 coefs Y e xs = alongside Y (writes e xs) (makes e xs) (blank Y) (blank Y) (Y .layers)
-
--- what layer k's predictions come to, where two lists of values stand in a relation at the points of the layers before it
-abbrev pub Carries : Layering → ℕ → (ℤ → ℤ → Type 0) → (ℤ → ℤ → Type 0) → Type 0
-Carries Y k R R′ =
-    (vs vs′ : List ℤ) → ((p : ℕ) → p < Y .points → known Y k p ≡ true → R (at vs p) (at vs′ p))
-    → (p : ℕ) → p < Y .points → Y .mem k p ≡ true → R′ (Y .predict k vs p) (Y .predict k vs′ p)
-
--- every point stands in exactly one layer, and is predicted from the layers before it alone
-pub record Proper (Y : Layering) : Type 0 where
-  pub all : (p : ℕ) → p < Y .points → known Y (Y .layers) p ≡ true
-  pub fresh : (k p : ℕ) → k < Y .layers → p < Y .points → known Y k p ≡ true → Y .mem k p ≡ false
-  pub local : (k : ℕ) → k < Y .layers → Carries Y k _≡_ _≡_

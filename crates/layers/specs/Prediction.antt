@@ -1,4 +1,4 @@
--- Prediction and steps (document 01).
+-- What is predicted at a point, and its coefficient (docs/CARD.md, "Prediction" and "Coefficients").
 use mathlib.Core.Bool.{Bool, false, cond, _&&_}
 use mathlib.Core.List.{List}
 use Prim.Native.Nat.{ℕ, _+_, _-_, _*_, _/_, _%_}
@@ -13,11 +13,11 @@ use Rattle.sheet.specs.declared.Direction.the-variants.{Anchor, Across, Down, B
 use Rattle.sheet.specs.Lists.{at}
 use Rattle.sheet.specs.Sheet.{place, direction, spacing, along}
 
--- "(-a + 9b + 9c - d) / 16, rounded towards minus infinity"
+-- (-a + 9b + 9c - d) / 16 rounded down
 unfoldable pub cubic : ℤ → ℤ → ℤ → ℤ → ℤ
 cubic a b c d = floorDiv (negℤ a +ℤ pos 9 *ℤ b +ℤ pos 9 *ℤ c -ℤ d) 16
 
--- "(b + c) / 2, rounded the same way"
+-- (b + c) / 2 rounded down
 unfoldable pub linear : ℤ → ℤ → ℤ
 linear b c = floorDiv (b +ℤ c) 2
 
@@ -25,7 +25,7 @@ linear b c = floorDiv (b +ℤ c) 2
 abbrev pub on : List ℤ → ℕ → ℕ → ℕ → ℤ
 on vs start stride t = at vs (start + t * stride)
 
--- "Cubic, all four in the sheet": those 3s before and 3s after place t of a line of n points
+-- are all four neighbours in the sheet? Those 3s before and 3s after place t of a line of n points are the outermost
 abbrev pub allFour : ℕ → ℕ → ℕ → Bool
 allFour n t s = leb (3 * s) t && ltb (t + 3 * s) n
 
@@ -33,16 +33,16 @@ abbrev pub usesFour : Curve → ℕ → ℕ → ℕ → Bool
 usesFour Linear n t s = false
 usesFour Cubic n t s = allFour n t s
 
--- "One rule serves both directions": what is predicted at place t of a line of n points, from those 3s before, s before, s after and 3s after it.
--- "Otherwise, b and c there: (b + c) / 2 .. Otherwise b alone."
+-- one rule for every direction: what is predicted at place t of a line of n points, from those 3s before, s before, s after and 3s after it;
+-- otherwise from b and c, otherwise b alone
 unfoldable pub line : Curve → List ℤ → ℕ → ℕ → ℕ → ℕ → ℕ → ℤ
 line curve vs start stride n t s =
     cond (usesFour curve n t s)
     (cubic (on vs start stride (t - 3 * s)) (on vs start stride (t - s)) (on vs start stride (t + s)) (on vs start stride (t + 3 * s)))
     (cond (ltb (t + s) n) (linear (on vs start stride (t - s)) (on vs start stride (t + s))) (on vs start stride (t - s)))
 
--- "An anchor is predicted as 0. Any other point looks along its line": its row for a layer across, its column for a layer down; a layer between
--- looks from sheet to sheet (request 10)
+-- an anchor is predicted as 0; any other point looks along its line: its row for a layer across, its column for a layer down, and from sheet to sheet
+-- for a layer between (of a stack)
 abbrev pub predicted : Shape → Curve → Direction → ℕ → List ℤ → ℕ → ℕ → ℕ → ℤ
 predicted sh curve Anchor s vs z r c = pos 0
 predicted sh curve Across s vs z r c = line curve vs (place sh z r 0) 1 (along sh Across) c s
@@ -54,14 +54,14 @@ unfoldable pub predictedAt : Shape → Curve → ℕ → List ℤ → ℕ → �
 predictedAt sh curve k vs p =
     predicted sh curve (direction sh k) (spacing sh k) vs (p / sh .cols / sh .rows) (p / sh .cols % sh .rows) (p % sh .cols)
 
--- "Let w = 2e + 1"
+-- w = 2e + 1
 unfoldable pub width : ℕ → ℕ
 width e = 2 * e + 1
 
--- "The coefficient is q = (reading - prediction + e) / w, rounded down"
+-- the coefficient of a sample: (x - y + e) / w rounded down
 unfoldable pub coefficientOf : ℤ → ℤ → ℕ → ℤ
 coefficientOf x y e = floorDiv (x -ℤ y +ℤ pos e) (width e)
 
--- "the rebuilt value is prediction + q × w"
+-- the rebuilt value: y + q × w
 unfoldable pub rebuiltFrom : ℤ → ℤ → ℕ → ℤ
 rebuiltFrom y q e = y +ℤ q *ℤ pos (width e)

@@ -1,7 +1,7 @@
 // A sheet's layers: quantizing samples to coefficients and values, and rebuilding values from coefficients, in the caller's slices.
-// Each layer is walked as a grid of rows and columns; of sheets too, once request 10 brings stacks of them.
+// Each layer is walked as a grid of rows and columns; of sheets too, once stacks come.
 ghost use mathlib.Core.Path.{_≡_};
-ghost use Rattle.layers.specs.Calls as C;
+ghost use Rattle.layers.specs.Workings.Calls as W;
 
 mod prediction;
 mod quantizing;
@@ -37,7 +37,7 @@ pub enum Quantized {
 
 // Can a sheet be written or rebuilt so: a shape and a step that are accepted?
 pub(crate) fn settled(shape: Shape, step: u64) -> bool
-    ensures { λ r. ⌜ r ≡ C.settled shape step ⌝ }
+    ensures { λ r. ⌜ r ≡ W.settled shape step ⌝ }
 {
     if sheet::accepted(shape) {
         return step <= MOST_STEP;

@@ -7,15 +7,15 @@ ghost use Rattle.integers.specs.Distance.{Within};
 ghost use Rattle.sheet.specs.Limits.{pointsMost, levelsMost, stepMost};
 ghost use Rattle.sheet.specs.Sheet as S;
 ghost use Rattle.layers.specs.Prediction as P;
-ghost use Rattle.layers.specs.Calls as C;
-ghost use Rattle.layers.specs.Loops as L;
+ghost use Rattle.layers.specs.Workings.Calls as W;
+ghost use Rattle.layers.specs.Workings.Loops as L;
 use crate::Crossing;
 use sheet::Curve;
 use sheet::Direction;
 use sheet::MOST_STEP;
 use sheet::Shape;
 
-// "a line is the lent sheet with a first point, a spacing and a count" (document 01). Its spacing is called its stride, since a layer has a
+// A line is the lent sheet with a first point, a spacing and a count. Its spacing is called its stride, since a layer has a
 // spacing too.
 pub struct Line<'a> {
     pub values: &'a [i64],
@@ -156,7 +156,7 @@ fn columns(shape: Shape, sheet: usize, row: usize) -> Crossing
     }
 }
 
-// The lines that cross row `row` of a sheet: its columns, or those from sheet to sheet in a layer between (request 10).
+// The lines that cross row `row` of a sheet: its columns, or those from sheet to sheet in a layer between, of a stack.
 pub(crate) fn crossing(shape: Shape, direction: Direction, sheet: usize, row: usize) -> Crossing
     requires { ⌜ (S.accepted shape ≡ true) × (sheet < shape .depth) × (row < shape .rows) ⌝ }
     ensures { λ x. ⌜ x ≡ L.crossingOf shape direction sheet row ⌝ }
@@ -187,7 +187,7 @@ pub(crate) fn width(step: u64) -> u64
 
 // The same for any step; 0 where it is not accepted.
 pub fn width_of(step: u64) -> u64
-    ensures { λ r. ⌜ r ≡ C.widthOf step ⌝ }
+    ensures { λ r. ⌜ r ≡ W.widthOf step ⌝ }
 {
     if MOST_STEP < step {
         return 0;

@@ -10,8 +10,9 @@ ghost use Rattle.sheet.specs.declared.Direction.the-variants.{Anchor, Across};
 ghost use Rattle.sheet.specs.Sheet as S;
 ghost use Rattle.layers.specs.Prediction as P;
 ghost use Rattle.layers.specs.Layering as Y;
-ghost use Rattle.layers.specs.Calls as C;
-ghost use Rattle.layers.specs.Loops as L;
+ghost use Rattle.layers.specs.Samples as C;
+ghost use Rattle.layers.specs.Workings.Calls as W;
+ghost use Rattle.layers.specs.Workings.Loops as L;
 use crate::Quantized;
 use crate::Scan;
 use crate::prediction::crossing;
@@ -305,7 +306,7 @@ pub fn quantize(
     coefficients: &mut [i32],
     values: &mut [i64],
 ) -> Quantized
-    ensures { λ r. ⌜ (r ≡ C.quantizing shape curve step (now (samples .entry)) (now (coefficients .entry)) (now (values .entry)) .answer) × (now (coefficients .exit) ≡ C.quantizing shape curve step (now (samples .entry)) (now (coefficients .entry)) (now (values .entry)) .coefficients) × (now (values .exit) ≡ C.quantizing shape curve step (now (samples .entry)) (now (coefficients .entry)) (now (values .entry)) .values) ⌝ }
+    ensures { λ r. ⌜ (r ≡ W.quantizing shape curve step (now (samples .entry)) (now (coefficients .entry)) (now (values .entry)) .answer) × (now (coefficients .exit) ≡ W.quantizing shape curve step (now (samples .entry)) (now (coefficients .entry)) (now (values .entry)) .coefficients) × (now (values .exit) ≡ W.quantizing shape curve step (now (samples .entry)) (now (coefficients .entry)) (now (values .entry)) .values) ⌝ }
 {
     if !settled(shape, step) {
         return Quantized::Refused;

@@ -11,8 +11,8 @@ ghost use Rattle.sheet.specs.declared.Curve as D;
 ghost use Rattle.sheet.specs.declared.Direction.the-variants.{Anchor, Across};
 ghost use Rattle.sheet.specs.Sheet as S;
 ghost use Rattle.layers.specs.Layering as Y;
-ghost use Rattle.layers.specs.Calls as C;
-ghost use Rattle.layers.specs.Loops as L;
+ghost use Rattle.layers.specs.Workings.Calls as W;
+ghost use Rattle.layers.specs.Workings.Loops as L;
 use crate::prediction::crossing;
 use crate::prediction::predict_along;
 use crate::prediction::value;
@@ -218,7 +218,7 @@ pub fn rebuild(
     step: u64,
     values: &mut [i64],
 ) -> bool
-    ensures { λ r. ⌜ (r ≡ C.rebuildable shape step (now (coefficients .entry)) (now (values .entry))) × (now (values .exit) ≡ C.rebuilding shape curve step (now (coefficients .entry)) (now (values .entry))) ⌝ }
+    ensures { λ r. ⌜ (r ≡ W.rebuildable shape step (now (coefficients .entry)) (now (values .entry))) × (now (values .exit) ≡ W.rebuilding shape curve step (now (coefficients .entry)) (now (values .entry))) ⌝ }
 {
     if !settled(shape, step) {
         return false;

@@ -10,7 +10,7 @@ use Rattle.sheet.specs.Lists.{tabulate}
 use Rattle.sheet.proofs.Lists.{length-tabulate, getD-tabulate, tabulate-same}
 use Rattle.header.specs.Header.{placesMost}
 use Rattle.loading.specs.InBytes.{bitAt}
-use Rattle.loading.specs.Words.{halfAt, halfBits, halfBit, halves, halved, added, wordsWith}
+use Rattle.loading.specs.Workings.Words.{halfAt, halfBits, halfBit, halves, halved, added, wordsWith}
 use Rattle.loading.proofs.PlaneSums.{at-most, with-same}
 
 -- ---- the halves of bytes

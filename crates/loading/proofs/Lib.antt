@@ -6,7 +6,6 @@ pub mod Spreads
 pub mod PlaneSums
 pub mod HalfBytes
 pub mod ZeroBits
-pub mod SlotOrder
 pub mod SlotTests
 pub mod WordSums
 pub mod ReadWords

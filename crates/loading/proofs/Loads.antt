@@ -11,7 +11,7 @@ use lib.IntN.{ℤ}
 use lib.ListN.{length}
 use Rattle.integers.proofs.Bools.{by, and-left, and-right, and-no-left, and-no-right}
 use Rattle.sheet.specs.declared.Shape.{Shape}
-use Rattle.layers.specs.Calls.{full}
+use Rattle.layers.specs.Samples.{full}
 use Rattle.sheet.specs.Limits.{layersMost}
 use Rattle.sheet.specs.Sheet.{points, layers, layerSize}
 use Rattle.sheet.proofs.Lists.{length-tabulate}
@@ -22,15 +22,16 @@ use Rattle.header.specs.declared.Refusal.the-variants as F
 use Rattle.header.specs.Refusals.{refusal, detailsOf}
 use Rattle.header.specs.Header.{cellBytes, planesOf, planeCells}
 use Rattle.header.specs.Plan.{noPlan, loads, firstOver}
-use Rattle.header.specs.Opening.{right}
-use Rattle.order.specs.CardOrder.{cellsBefore, cellsBeforeIn, isWhole, whole, wholePlan, wholeIn}
+use Rattle.header.specs.Opening.{wellFormed}
+use Rattle.order.specs.CardOrder.{slots, cellsBefore, isWhole, whole, wholePlan}
+use Rattle.order.specs.Workings.{cellsBeforeIn, wholeIn}
 use Rattle.header.proofs.Over.{over-none, none-over}
 use Rattle.header.proofs.Rightness.{right-yes, layers-few}
 use Rattle.order.proofs.Whole.{whole-fits, fits-whole, whole-most, counted-whole}
 use Rattle.packing.specs.Planes.{allHeld}
-use Rattle.loading.specs.InBytes.{bitAt, fineBits, fine, slots, firstBad, coefsRead, coefsPlus, coefsWith}
-use Rattle.loading.specs.Words.{AllThere, loadedAs}
-use Rattle.loading.specs.Calls.{Loading, told, no, done, loadable, loadingWhole, loading, allWhole, wholeLoaded, there, adding}
+use Rattle.loading.specs.InBytes.{bitAt, fineBits, fine, firstBad, coefsRead, coefsPlus, coefsWith}
+use Rattle.loading.specs.Workings.Words.{AllThere, loadedAs}
+use Rattle.loading.specs.Workings.Calls.{Loading, asLoading, notLoaded, done, loadable, loadingWhole, loading, allWhole, wholeLoaded, there, adding}
 use Rattle.loading.specs.declared.Loaded.the-variants.{Fine, Bad}
 use Rattle.loading.proofs.LayerPlanes.{whole-at, loaded-yes}
 use Rattle.loading.proofs.WordSums.{fine-at}
@@ -52,31 +53,31 @@ module _ (qs : List ℤ) (bs : List ℕ) (h : Header) (long : ℕ) where
   abbrev filled : Bool
   filled = full (h .shape) qs
 
-  pub loadable-right : loadable qs bs h long ≡ true → right h ≡ true
+  pub loadable-right : loadable qs bs h long ≡ true → wellFormed h ≡ true
   unfolding loadable
-  loadable-right y = and-left (right h) (room && filled) y
+  loadable-right y = and-left (wellFormed h) (room && filled) y
 
   pub loadable-here : loadable qs bs h long ≡ true → long ≤ length bs
   unfolding loadable
-  loadable-here y = leb-true long (length bs) (and-left room filled (and-right (right h) (room && filled) y))
+  loadable-here y = leb-true long (length bs) (and-left room filled (and-right (wellFormed h) (room && filled) y))
 
   pub loadable-full : loadable qs bs h long ≡ true → full (h .shape) qs ≡ true
   unfolding loadable
-  loadable-full y = and-right room filled (and-right (right h) (room && filled) y)
+  loadable-full y = and-right room filled (and-right (wellFormed h) (room && filled) y)
 
-  pub loadable-wrong : right h ≡ false → loadable qs bs h long ≡ false
+  pub loadable-wrong : wellFormed h ≡ false → loadable qs bs h long ≡ false
   unfolding loadable
-  loadable-wrong n = and-no-left (right h) (room && filled) n
+  loadable-wrong n = and-no-left (wellFormed h) (room && filled) n
 
   pub loadable-short : length bs < long → loadable qs bs h long ≡ false
   unfolding loadable
-  loadable-short l = and-no-right (right h) (room && filled) (and-no-left room filled (lt-leb long (length bs) l))
+  loadable-short l = and-no-right (wellFormed h) (room && filled) (and-no-left room filled (lt-leb long (length bs) l))
 
-  pub loadable-by : right h ≡ true → long ≤ length bs → loadable qs bs h long ≡ full (h .shape) qs
+  pub loadable-by : wellFormed h ≡ true → long ≤ length bs → loadable qs bs h long ≡ full (h .shape) qs
   unfolding loadable
   loadable-by r l = rw (r, le-leb long (length bs) l)
 
-pub whole-is : (h : Header) → right h ≡ true → (n : ℕ) → wholeIn h n ≡ wholePlan h n
+pub whole-is : (h : Header) → wellFormed h ≡ true → (n : ℕ) → wholeIn h n ≡ wholePlan h n
 unfolding wholeIn
 whole-is h r n = rw r
 
@@ -95,12 +96,12 @@ module _ (h : Header) (long : ℕ) (bs : List ℕ) (plan : Plan) (qs : List ℤ)
   slot = firstBad h long bs (loads plan)
 
   abbrev all : ℕ
-  all = slots h long bs (loads plan)
+  all = slots h
 
-  pub load-bad : (k : ℕ) → Bad k ≡ loadedAs h long bs (loads plan) → no qs (refusal 8 k 0) ≡ loadingWhole qs bs h long plan slot
+  pub load-bad : (k : ℕ) → Bad k ≡ loadedAs h long bs (loads plan) → notLoaded qs (refusal 8 k 0) ≡ loadingWhole qs bs h long plan slot
   load-bad k e =
       by (ltb slot all)
-      (λ t. rw t (ap (λ (j : ℕ). no qs (refusal 8 j 0)) (bad-same (rw t at e))))
+      (λ t. rw t (ap (λ (j : ℕ). notLoaded qs (refusal 8 j 0)) (bad-same (rw t at e))))
       (λ t. absurd (bad-fine (rw t at e)))
 
   pub load-fine : Fine ≡ loadedAs h long bs (loads plan) → done (coefsRead h long bs (loads plan)) ≡ loadingWhole qs bs h long plan slot
@@ -111,14 +112,14 @@ module _ (h : Header) (long : ℕ) (bs : List ℕ) (plan : Plan) (e : firstOver 
   pub within : (k : ℕ) → k < layersMost → loads plan k ≤ whole h (length bs - long) k
   within k l = omega (arith, over-none (loads (wholePlan h (length bs - long))) (loads plan) e k l, whole-at h (length bs - long) k l)
 
-module _ (h : Header) (r : right h ≡ true) (long : ℕ) (bs : List ℕ) (plan : Plan) (here : long ≤ length bs)
+module _ (h : Header) (r : wellFormed h ≡ true) (long : ℕ) (bs : List ℕ) (plan : Plan) (here : long ≤ length bs)
     (e : firstOver (loads (wholePlan h (length bs - long))) (loads plan) ≡ layersMost) where
   pub plan-within : firstOver (planesOf h) (loads plan) ≡ layersMost
   plan-within = none-over (planesOf h) (loads plan) (λ k l. omega (arith, within h long bs plan e k l, whole-most h (length bs - long) k))
 
   pub all-there : AllThere h long bs (loads plan)
   all-there k p hk t =
-      let l = loaded-yes h long bs (loads plan) k p t in
+      let l = loaded-yes h (loads plan) k p t in
       let few = layers-few (right-yes h r) in
       let n = length bs - long in
       let w = counted-whole h n k hk p (l .0) (omega (arith, l .1, within h long bs plan e k (omega arith))) in
@@ -126,7 +127,7 @@ module _ (h : Header) (r : right h ≡ true) (long : ℕ) (bs : List ℕ) (plan 
 
 -- ---- one plane: where it stands, and whether it is fine, as the code asks it
 module _ (h : Header) (k p : ℕ) where
-  pub before-is : right h ≡ true → k < layers (h .shape) → p < planesOf h k → cellsBeforeIn h k p ≡ cellsBefore h k p
+  pub before-is : wellFormed h ≡ true → k < layers (h .shape) → p < planesOf h k → cellsBeforeIn h k p ≡ cellsBefore h k p
   unfolding cellsBeforeIn
   before-is r hk hp =
       let few : k < layersMost = omega (arith, layers-few (right-yes h r)) in
@@ -143,7 +144,7 @@ module _ (h : Header) (k p : ℕ) where
 
 -- ---- what the calls answer
 module _ (qs : List ℤ) (bs : List ℕ) (h : Header) (long : ℕ) where
-  pub not-loadable : loadable qs bs h long ≡ false → (plan : Plan) → no qs (refusal 3 0 0) ≡ loading qs bs h long plan
+  pub not-loadable : loadable qs bs h long ≡ false → (plan : Plan) → notLoaded qs (refusal 3 0 0) ≡ loading qs bs h long plan
   unfolding loading
   not-loadable n plan = rw n
 
@@ -151,7 +152,7 @@ module _ (qs : List ℤ) (bs : List ℕ) (h : Header) (long : ℕ) where
     abbrev over : ℕ
     over = firstOver (loads (wholePlan h (length bs - long))) (loads plan)
 
-    pub plan-over : over < layersMost → no qs (refusal 9 over 0) ≡ loading qs bs h long plan
+    pub plan-over : over < layersMost → notLoaded qs (refusal 9 over 0) ≡ loading qs bs h long plan
     unfolding loading
     plan-over l = rw (y, lt-ltb over layersMost l)
 
@@ -163,7 +164,7 @@ module _ (qs : List ℤ) (bs : List ℕ) (h : Header) (long : ℕ) where
   whole-good = none-over (loads (wholePlan h (length bs - long))) (loads (wholePlan h (length bs - long))) (λ k l. omega arith)
 
   -- beside a refusal the plan is that of no planes
-  module _ (r : Refusal) (q : List ℤ) (e : told r q ≡ allWhole qs bs h long) where
+  module _ (r : Refusal) (q : List ℤ) (e : asLoading r q ≡ allWhole qs bs h long) where
     abbrev number : ℕ
     number = detailsOf r .number
 
@@ -180,27 +181,27 @@ module _ (qs : List ℤ) (bs : List ℕ) (h : Header) (long : ℕ) where
 
   -- ---- one plane more
   module _ (k p : ℕ) where
-    pub add-not-loadable : loadable qs bs h long ≡ false → no qs (refusal 3 0 0) ≡ adding qs bs h long k p
+    pub add-not-loadable : loadable qs bs h long ≡ false → notLoaded qs (refusal 3 0 0) ≡ adding qs bs h long k p
     unfolding adding
     add-not-loadable n = rw n
 
     module _ (y : loadable qs bs h long ≡ true) where
-      add-not-there : there bs h long k p ≡ false → no qs (refusal 3 0 0) ≡ adding qs bs h long k p
+      add-not-there : there bs h long k p ≡ false → notLoaded qs (refusal 3 0 0) ≡ adding qs bs h long k p
       unfolding adding
       add-not-there n = rw (y, n)
 
-      pub add-past : layers (h .shape) ≤ k → no qs (refusal 3 0 0) ≡ adding qs bs h long k p
+      pub add-past : layers (h .shape) ≤ k → notLoaded qs (refusal 3 0 0) ≡ adding qs bs h long k p
       add-past l = add-not-there (unfold there in (rw (le-ltb k (layers (h .shape)) l)))
 
       module _ (hk : k < layers (h .shape)) where
-        pub add-unnamed : planesOf h k ≤ p → no qs (refusal 3 0 0) ≡ adding qs bs h long k p
+        pub add-unnamed : planesOf h k ≤ p → notLoaded qs (refusal 3 0 0) ≡ adding qs bs h long k p
         add-unnamed l = add-not-there (unfold there in (rw (lt-ltb k (layers (h .shape)) hk, le-ltb p (planesOf h k) l)))
 
         module _ (hp : p < planesOf h k) where
           abbrev end : ℕ
           end = cellBytes * (cellsBefore h k p + planeCells (h .shape) k)
 
-          pub add-cut : length bs - long < end → no qs (refusal 3 0 0) ≡ adding qs bs h long k p
+          pub add-cut : length bs - long < end → notLoaded qs (refusal 3 0 0) ≡ adding qs bs h long k p
           add-cut l = add-not-there (unfold there isWhole in (rw (lt-ltb k (layers (h .shape)) hk, lt-ltb p (planesOf h k) hp, lt-leb end (length bs - long) l)))
 
           module _ (l : end ≤ length bs - long) where
@@ -208,12 +209,12 @@ module _ (qs : List ℤ) (bs : List ℕ) (h : Header) (long : ℕ) where
             unfolding there
             there-yes = rw (lt-ltb k (layers (h .shape)) hk, lt-ltb p (planesOf h k) hp, fits-whole h (length bs - long) k p l)
 
-            pub add-unheld : allHeld qs ≡ false → no qs (refusal 11 0 0) ≡ adding qs bs h long k p
+            pub add-unheld : allHeld qs ≡ false → notLoaded qs (refusal 11 0 0) ≡ adding qs bs h long k p
             unfolding adding
             add-unheld n = rw (y, there-yes, n)
 
             module _ (held : allHeld qs ≡ true) where
-              pub add-bad : fine h long bs k p ≡ false → no qs (refusal 8 k 0) ≡ adding qs bs h long k p
+              pub add-bad : fine h long bs k p ≡ false → notLoaded qs (refusal 8 k 0) ≡ adding qs bs h long k p
               unfolding adding
               add-bad n = rw (y, there-yes, held, n)
 

@@ -11,7 +11,7 @@ use lib.Dec.{ltb, leb}
 use lib.ListN.{length, getD, set, length-set, List·getD-eq-default}
 use lib.Seq.{ext-getD, getD-set-same, getD-set-other}
 use Rattle.sheet.proofs.Lists.{length-tabulate, getD-tabulate}
-use Rattle.loading.specs.Words.{wordsWith}
+use Rattle.loading.specs.Workings.Words.{wordsWith}
 
 -- a bit at place p
 pub at-most : (b p m : ℕ) → b ≤ 1 → p ≤ m → b * 2 ^ p ≤ 2 ^ m

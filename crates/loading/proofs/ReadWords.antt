@@ -11,7 +11,8 @@ use lib.IntN.{ℤ, pos, _-ℤ_, _*ℤ_}
 use lib.ListN.{getD}
 use lib.Seq.{ext-getD}
 use Rattle.integers.proofs.Bools.{by, and-no-left}
-use Rattle.digits.specs.Digits.{value, bitsOf}
+use Rattle.digits.specs.Digits.{value}
+use Rattle.digits.specs.Groups.{bitsOf}
 use Rattle.digits.proofs.Words.{bits-more}
 use Rattle.sheet.specs.declared.Curve.the-variants.{Linear}
 use Rattle.sheet.specs.Lists.{tabulate, total}
@@ -23,12 +24,12 @@ use Rattle.layers.proofs.SheetLaw.{sheet-proper}
 use Rattle.layers.specs.Layering.{ownLayer}
 use Rattle.header.specs.declared.Header.{Header}
 use Rattle.header.specs.Header.{placesMost, planesOf}
-use Rattle.header.specs.Opening.{right}
+use Rattle.header.specs.Opening.{wellFormed}
 use Rattle.header.proofs.Rightness.{Right, right-yes, few-planes}
 use Rattle.header.proofs.Totals.{total-same}
 use Rattle.loading.specs.InBytes.{bitAt, bitOf, loaded, coefRead, wordRead, coefsRead}
-use Rattle.packing.specs.Words.{blockStart}
-use Rattle.loading.specs.Words.{spreadAll, Read}
+use Rattle.packing.specs.Workings.Words.{blockStart}
+use Rattle.loading.specs.Workings.Words.{spreadAll, Read}
 use Rattle.loading.proofs.PlaneSums.{at-most}
 use Rattle.loading.proofs.WordSums.{sum-small}
 
@@ -66,11 +67,11 @@ value-past (suc n) (suc m) b l h = ap (λ (z : ℤ). pos (b 0) -ℤ pos 2 *ℤ z
 module _ (h : Header) (long : ℕ) (bs : List ℕ) (plan : ℕ → ℕ) where
   -- the digit at place p of layer k's point i
   digitRead : ℕ → ℕ → ℕ → ℕ
-  digitRead k i p = cond (loaded h long bs plan k p) (bitOf h long bs k p i) 0
+  digitRead k i p = cond (loaded h plan k p) (bitOf h long bs k p i) 0
 
   digit-small : (k i p : ℕ) → digitRead k i p < 2
   unfolding bitAt digitRead
-  digit-small k i p = by (loaded h long bs plan k p) (λ e. rw e (omega arith)) (λ e. rw e (omega arith))
+  digit-small k i p = by (loaded h plan k p) (λ e. rw e (omega arith)) (λ e. rw e (omega arith))
 
   digit-past : (k i p : ℕ) → planesOf h k ≤ p → digitRead k i p ≡ 0
   unfolding digitRead
@@ -78,7 +79,7 @@ module _ (h : Header) (long : ℕ) (bs : List ℕ) (plan : ℕ → ℕ) where
 
   word-sum : (k i : ℕ) → wordRead h long bs plan k i ≡ total (λ p. digitRead k i p * 2 ^ p) placesMost
   unfolding wordRead digitRead
-  word-sum k i = total-same _ _ placesMost (λ p _. times (loaded h long bs plan k p) (bitOf h long bs k p i) (2 ^ p))
+  word-sum k i = total-same _ _ placesMost (λ p _. times (loaded h plan k p) (bitOf h long bs k p i) (2 ^ p))
     where
       times : (t : Bool) (b w : ℕ) → cond t (b * w) 0 ≡ cond t b 0 * w
       times true b w = refl
@@ -117,5 +118,5 @@ module _ (h : Header) (long : ℕ) (bs : List ℕ) (plan : ℕ → ℕ) where
       ∙ number-read k i (few-planes r k hk)
       ∙ sym (getD-tabulate n _ p (pos 0) hp))
 
-  pub read-right : (ws : List ℕ) → right h ≡ true → Read h long bs plan ws → spreadAll (h .shape) ws ≡ coefsRead h long bs plan
+  pub read-right : (ws : List ℕ) → wellFormed h ≡ true → Read h long bs plan ws → spreadAll (h .shape) ws ≡ coefsRead h long bs plan
   read-right ws r w = read-same ws (right-yes h r) w

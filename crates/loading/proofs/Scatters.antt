@@ -15,11 +15,11 @@ use Rattle.sheet.specs.declared.Shape.{Shape}
 use Rattle.sheet.specs.declared.Lines.{Lines}
 use Rattle.sheet.specs.Lists.{at, tabulate}
 use Rattle.sheet.specs.Sheet.{points, inLayer, layerSize, pointOf, placeIn}
-use Rattle.sheet.specs.Lines.{lineStart}
+use Rattle.sheet.specs.Workings.Lines.{startIn, Lined}
 use Rattle.sheet.proofs.Lists.{length-tabulate, getD-tabulate}
 use Rattle.sheet.proofs.Places.{point-in, place-point, place-in, point-place}
-use Rattle.sheet.proofs.LinePoints.{Lined, line-room}
-use Rattle.loading.specs.Words.{Scattered}
+use Rattle.sheet.proofs.LinePoints.{line-room}
+use Rattle.loading.specs.Workings.Words.{Scattered}
 
 module _ (place : ℕ → ℕ) (f : ℕ → ℤ) {l : List ℤ} where
   pub scattered-none : Scattered place 0 f l l
@@ -64,13 +64,25 @@ module _ (sh : Shape) (k : ℕ) where
   point-new : (i j : ℕ) → i < layerSize sh k → j < layerSize sh k → pointOf sh k i ≡ pointOf sh k j → i ≡ j
   point-new i j h h′ e = sym (place-point sh k i h) ∙ ap (placeIn sh k) e ∙ place-point sh k j h′
 
+  -- so the points of a line stand apart
+  pub line-apart : {n : Lines} → Lined sh k n → (t : ℕ) → t < n .sheets * n .lines → 1 < n .points → 0 < n .stride
+  line-apart {n} d t ht h =
+      let m = t * n .points in
+      let room = line-room d t ht in
+      elim (decLt 0 (n .stride)) [
+        | yes lt ↦ lt
+        | no ge ↦
+            let e : pointOf sh k (m + 0) ≡ pointOf sh k (m + 1) = omega (arith, d .point t 0 ht (omega arith), d .point t 1 ht h) in
+            absurd (let z : ⊥ = omega (arith, point-new (m + 0) (m + 1) (omega arith) (omega arith) e) in z)
+      ]
+
   module _ (f : ℕ → ℤ) {l l′ : List ℤ} where
     -- a point whose turn has not come
     pub scattered-ahead : {m : ℕ} → Scattered (pointOf sh k) m f l l′ → (i : ℕ) → m ≤ i → i < layerSize sh k → at l′ (pointOf sh k i) ≡ at l (pointOf sh k i)
     scattered-ahead s i h h′ = s .kept (pointOf sh k i) (λ j lt e. omega (arith, point-new j i (omega arith) h′ e))
 
     -- a line more
-    pub scattered-line : {n : Lines} → Lined sh k n → {l″ : List ℤ} {f′ : ℕ → ℤ} (t : ℕ) → t < n .sheets * n .lines → {first : ℕ} → first ≡ lineStart n t → ((j : ℕ) → j < n .points → f′ j ≡ f (t * n .points + j))
+    pub scattered-line : {n : Lines} → Lined sh k n → {l″ : List ℤ} {f′ : ℕ → ℤ} (t : ℕ) → t < n .sheets * n .lines → {first : ℕ} → first ≡ startIn n t → ((j : ℕ) → j < n .points → f′ j ≡ f (t * n .points + j))
         → Scattered (pointOf sh k) (t * n .points) f l l′ → Scattered (λ j. first + j * n .stride) (n .points) f′ l′ l″
         → Scattered (pointOf sh k) ((t + 1) * n .points) f l l″
     scattered-line {n} d {l″} t ht starts what s s′ =

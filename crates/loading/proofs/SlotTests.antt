@@ -9,8 +9,8 @@ use lib.Dec.{ltb, eqb}
 use lib.ListN.{length}
 use Rattle.integers.proofs.Bools.{by, and-left, or-cases}
 use Rattle.header.specs.Header.{cellPoints}
-use Rattle.loading.specs.InBytes.{bitAt, clean, hasOne, fineBits, asked}
-use Rattle.loading.specs.Words.{slotFine, slotWords, wordsWith}
+use Rattle.loading.specs.InBytes.{bitAt, clean, hasOne, fineBits, amongTop}
+use Rattle.loading.specs.Workings.Words.{slotFine, slotWords, wordsWith}
 use Rattle.packing.proofs.All.{all-at}
 use Rattle.loading.proofs.PlaneSums.{with-length}
 
@@ -44,13 +44,13 @@ module _ (bs : List ℕ) (from n c : ℕ) where
 
 -- ---- is it asked for?
 module _ (count want p : ℕ) where
-  pub asked-yes : p < count → count - p ≤ want → asked count want p ≡ true
+  pub asked-yes : p < count → count - p ≤ want → amongTop count want p ≡ true
   asked-yes a b = let l : count ≤ p + want = omega arith in rw (lt-ltb p count a, le-leb count (p + want) l)
 
-  pub asked-less : want < count - p → asked count want p ≡ false
+  pub asked-less : want < count - p → amongTop count want p ≡ false
   asked-less b = let a : p < count = omega arith in let l : p + want < count = omega arith in rw (lt-ltb p count a, lt-leb count (p + want) l)
 
-  pub asked-out : count ≤ p → asked count want p ≡ false
+  pub asked-out : count ≤ p → amongTop count want p ≡ false
   asked-out a = rw (le-ltb p count a)
 
 -- ---- one slot
@@ -58,19 +58,19 @@ module _ (bs : List ℕ) (from n c count want p : ℕ) (ws : List ℕ) (start : 
   abbrev Both : Bool → List ℕ → Type 0
   Both f vs = (slotFine bs from n c count want p ≡ f) × (slotWords bs from n c count want p ws start ≡ vs)
 
-  pub slot-none : asked count want p ≡ false → Both true ws
+  pub slot-none : amongTop count want p ≡ false → Both true ws
   unfolding slotWords slotFine
   slot-none a = (rw a, rw a)
 
-  pub slot-bad : asked count want p ≡ true → fineBits (bitAt bs from) n c (eqb (suc p) count) ≡ false → Both false ws
+  pub slot-bad : amongTop count want p ≡ true → fineBits (bitAt bs from) n c (eqb (suc p) count) ≡ false → Both false ws
   unfolding slotWords slotFine
   slot-bad a f = (rw (a, f), rw (a, f))
 
-  pub slot-good : asked count want p ≡ true → fineBits (bitAt bs from) n c (eqb (suc p) count) ≡ true → Both true (wordsWith ws start (cellPoints * c) p (bitAt bs from))
+  pub slot-good : amongTop count want p ≡ true → fineBits (bitAt bs from) n c (eqb (suc p) count) ≡ true → Both true (wordsWith ws start (cellPoints * c) p (bitAt bs from))
   unfolding slotWords slotFine
   slot-good a f = (rw (a, f), rw (a, f))
 
-  pub slot-adds : asked count want p ≡ true → slotFine bs from n c count want p ≡ true → slotWords bs from n c count want p ws start ≡ wordsWith ws start (cellPoints * c) p (bitAt bs from)
+  pub slot-adds : amongTop count want p ≡ true → slotFine bs from n c count want p ≡ true → slotWords bs from n c count want p ws start ≡ wordsWith ws start (cellPoints * c) p (bitAt bs from)
   unfolding slotWords
   slot-adds a f = rw (a, f)
 
@@ -86,6 +86,6 @@ module _ (bs : List ℕ) {from from′ n n′ c c′ : ℕ} (a : from ≡ from�
 pub slot-length : (bs : List ℕ) (from n c count want p : ℕ) (ws : List ℕ) (start : ℕ) → length (slotWords bs from n c count want p ws start) ≡ length ws
 unfolding slotWords
 slot-length bs from n c count want p ws start =
-    by (asked count want p && slotFine bs from n c count want p)
+    by (amongTop count want p && slotFine bs from n c count want p)
     (λ e. rw e (with-length ws start (cellPoints * c) p (bitAt bs from)))
     (λ e. rw e)

@@ -9,17 +9,19 @@ use lib.IntN.{ℤ, pos}
 use lib.ListN.{length, getD}
 use lib.Seq.{ext-getD}
 use Rattle.integers.proofs.Bools.{not-yes}
-use Rattle.digits.specs.Digits.{value, bitsOf}
+use Rattle.digits.specs.Digits.{value}
+use Rattle.digits.specs.Groups.{bitsOf}
 use Rattle.sheet.specs.declared.Shape.{Shape}
 use Rattle.sheet.specs.declared.Curve.the-variants.{Linear}
 use Rattle.sheet.specs.Lists.{at}
 use Rattle.sheet.specs.Sheet.{accepted, points, layers, inLayer, placeIn}
-use Rattle.layers.specs.Layering.{layering, Proper, ownLayer}
+use Rattle.layers.specs.Layering.{layering, ownLayer}
+use Rattle.layers.proofs.Proper.{Proper}
 use Rattle.sheet.proofs.Lists.{length-tabulate, getD-tabulate}
 use Rattle.layers.proofs.Members.{only-one, in-own, own-below}
 use Rattle.layers.proofs.SheetLaw.{sheet-proper}
-use Rattle.packing.specs.Words.{blockStart}
-use Rattle.loading.specs.Words.{spreadOver, spreadAll}
+use Rattle.packing.specs.Workings.Words.{blockStart}
+use Rattle.loading.specs.Workings.Words.{spreadOver, spreadAll}
 
 -- the number of the word of point p, if it stands in layer j
 abbrev pub numberAt : Shape → List ℕ → ℕ → ℕ → ℤ

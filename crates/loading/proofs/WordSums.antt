@@ -16,18 +16,19 @@ use Rattle.integers.proofs.Bools.{by, and-both}
 use Rattle.header.specs.declared.Header.{Header}
 use Rattle.header.specs.Header.{placesMost, cellBytes, cellPoints, planesOf, planeCells}
 use Rattle.order.specs.CardOrder.{cellsBefore}
+use Rattle.order.specs.Workings.{slotNo}
 use Rattle.header.proofs.Totals.{total-same, total-none, total-bump}
 use Rattle.header.proofs.Total.{plane-room}
-use Rattle.loading.specs.InBytes.{bitAt, fineBits, asked, bitOf, fine, loaded, badSlot, firstBad, wordRead}
-use Rattle.packing.specs.Words.{blockStart, wordsMost}
-use Rattle.loading.specs.Words.{slotFine, slotWords, wordsWith, Read, loadedAs, slotNo, share, Partly}
+use Rattle.loading.specs.InBytes.{bitAt, fineBits, amongTop, bitOf, fine, loaded, badSlot, firstBad, wordRead}
+use Rattle.packing.specs.Workings.Words.{blockStart, wordsMost}
+use Rattle.loading.specs.Workings.Words.{slotFine, slotWords, wordsWith, Read, loadedAs, share, Partly}
 use Rattle.loading.specs.declared.Loaded.the-variants.{Fine, Bad}
 use Rattle.loading.proofs.ZeroBits.{bit-most}
 use Rattle.sheet.proofs.Lists.{getD-zeros}
 use Rattle.loading.proofs.PlaneSums.{at-most, with-length, with-in, with-before, with-after}
 use Rattle.loading.proofs.SlotTests.{slot-none, slot-adds}
 use Rattle.packing.proofs.Blocks.{blocks-apart, block-room, in-block}
-use Rattle.loading.proofs.SlotOrder.{slot-is, slot-same, slot-last}
+use Rattle.order.proofs.Slots.{slot-is, slot-same, slot-last}
 
 -- ---- sums of at most one bit a place
 pub sum-small : (f : ℕ → ℕ) → ((p : ℕ) → f p ≤ 2 ^ p) → (n : ℕ) → total f n < 2 ^ n
@@ -39,22 +40,22 @@ module _ (h : Header) (long : ℕ) (bs : List ℕ) (plan : ℕ → ℕ) where
   abbrev L : ℕ
   L = layers (h .shape)
 
-  pub share-yes : (t k i p : ℕ) → loaded h long bs plan k p ≡ true → slotNo h k p < t → share h long bs plan t k i p ≡ bitOf h long bs k p i * 2 ^ p
+  pub share-yes : (t k i p : ℕ) → loaded h plan k p ≡ true → slotNo h k p < t → share h long bs plan t k i p ≡ bitOf h long bs k p i * 2 ^ p
   unfolding share
-  share-yes t k i p a l = rw (and-both (loaded h long bs plan k p) (ltb (slotNo h k p) t) a (lt-ltb _ _ l))
+  share-yes t k i p a l = rw (and-both (loaded h plan k p) (ltb (slotNo h k p) t) a (lt-ltb _ _ l))
 
-  pub share-no : (t k i p : ℕ) → loaded h long bs plan k p ≡ false → share h long bs plan t k i p ≡ 0
+  pub share-no : (t k i p : ℕ) → loaded h plan k p ≡ false → share h long bs plan t k i p ≡ 0
   unfolding share
   share-no t k i p a = rw a
 
   pub share-coming : (t k i p : ℕ) → t ≤ slotNo h k p → share h long bs plan t k i p ≡ 0
   unfolding share
-  share-coming t k i p l = by (loaded h long bs plan k p) (λ a. rw (a, le-ltb (slotNo h k p) t l)) (λ a. rw a)
+  share-coming t k i p l = by (loaded h plan k p) (λ a. rw (a, le-ltb (slotNo h k p) t l)) (λ a. rw a)
 
   -- all are passed in the end
-  pub share-all : (t k i p : ℕ) → slotNo h k p < t → share h long bs plan t k i p ≡ cond (loaded h long bs plan k p) (bitOf h long bs k p i * 2 ^ p) 0
+  pub share-all : (t k i p : ℕ) → slotNo h k p < t → share h long bs plan t k i p ≡ cond (loaded h plan k p) (bitOf h long bs k p i * 2 ^ p) 0
   unfolding share
-  share-all t k i p l = by (loaded h long bs plan k p) (λ a. rw (a, lt-ltb (slotNo h k p) t l)) (λ a. rw a)
+  share-all t k i p l = by (loaded h plan k p) (λ a. rw (a, lt-ltb (slotNo h k p) t l)) (λ a. rw a)
 
   pub share-same : (t k i p : ℕ) → (slotNo h k p ≡ t → ⊥) → share h long bs plan (t + 1) k i p ≡ share h long bs plan t k i p
   share-same t k i p ne =
@@ -70,7 +71,7 @@ module _ (h : Header) (long : ℕ) (bs : List ℕ) (plan : ℕ → ℕ) where
 
   pub share-most : (t k i p : ℕ) → share h long bs plan t k i p ≤ 2 ^ p
   share-most t k i p =
-      by (loaded h long bs plan k p)
+      by (loaded h plan k p)
       (λ a.
       elim (decLt (slotNo h k p) t) [
         | yes l ↦
@@ -81,16 +82,16 @@ module _ (h : Header) (long : ℕ) (bs : List ℕ) (plan : ℕ → ℕ) where
       (λ a. omega (arith, share-no t k i p a))
 
   -- ---- is a slot's plane fine?
-  bad-slot : (k p : ℕ) → k < L → p < placesMost → badSlot h long bs plan (slotNo h k p) ≡ loaded h long bs plan k p && not (fine h long bs k p)
+  bad-slot : (k p : ℕ) → k < L → p < placesMost → badSlot h long bs plan (slotNo h k p) ≡ loaded h plan k p && not (fine h long bs k p)
   unfolding badSlot
-  bad-slot k p l m = let o = slot-is h k p l m in sym (ap₂ (λ (x y : ℕ). loaded h long bs plan x y && not (fine h long bs x y)) (o .0) (o .1))
+  bad-slot k p l m = let o = slot-is h k p l m in sym (ap₂ (λ (x y : ℕ). loaded h plan x y && not (fine h long bs x y)) (o .0) (o .1))
 
   pub fine-slot : (k p : ℕ) → k < L → p < placesMost
       → slotFine bs (long + cellBytes * cellsBefore h k p) (layerSize (h .shape) k) (planeCells (h .shape) k) (planesOf h k) (plan k) p ≡ not (badSlot h long bs plan (slotNo h k p))
   unfolding slotFine
   fine-slot k p l m =
-      ap (λ (f : Bool). not (loaded h long bs plan k p) || f) (sym (fine-at k p))
-      ∙ turned (loaded h long bs plan k p) (fine h long bs k p)
+      ap (λ (f : Bool). not (loaded h plan k p) || f) (sym (fine-at k p))
+      ∙ turned (loaded h plan k p) (fine h long bs k p)
       ∙ ap not (sym (bad-slot k p l m))
     where
       turned : (a f : Bool) → not a || f ≡ not (a && not f)
@@ -163,7 +164,7 @@ module _ (h : Header) (long : ℕ) (bs : List ℕ) (plan : ℕ → ℕ) where
     from = long + cellBytes * cellsBefore h k p
 
     -- one that is not loaded
-    partly-same : loaded h long bs plan k p ≡ false → Partly h long bs plan (t + 1) ws
+    partly-same : loaded h plan k p ≡ false → Partly h long bs plan (t + 1) ws
     partly-same out =
         record {
           long-is = w .long-is;
@@ -176,13 +177,13 @@ module _ (h : Header) (long : ℕ) (bs : List ℕ) (plan : ℕ → ℕ) where
             elim (ℕ-discrete (slotNo h j q) t) [
               | yes e ↦
                   let o = slot-same h j q k p a m hk hp e in
-                  let n : loaded h long bs plan j q ≡ false = ap₂ (λ (x y : ℕ). loaded h long bs plan x y) (o .0) (o .1) ∙ out in
+                  let n : loaded h plan j q ≡ false = ap₂ (λ (x y : ℕ). loaded h plan x y) (o .0) (o .1) ∙ out in
                   share-no h long bs plan t j i q n ∙ sym (share-no h long bs plan (t + 1) j i q n)
               | no e ↦ sym (share-same h long bs plan t j i q e)
             ]
 
     -- one that is
-    partly-more : loaded h long bs plan k p ≡ true → Partly h long bs plan (t + 1) (wordsWith ws (blockStart (h .shape) k) (cellPoints * planeCells (h .shape) k) p (bitAt bs from))
+    partly-more : loaded h plan k p ≡ true → Partly h long bs plan (t + 1) (wordsWith ws (blockStart (h .shape) k) (cellPoints * planeCells (h .shape) k) p (bitAt bs from))
     partly-more is =
         record {
           long-is = with-length ws start n p bit ∙ w .long-is;
@@ -229,6 +230,6 @@ module _ (h : Header) (long : ℕ) (bs : List ℕ) (plan : ℕ → ℕ) where
     partly-next vs f e =
         let on : slotNo h (k + 1) p ≡ t + 1 = omega arith in
         rw on
-        (by (asked (planesOf h k) (plan k) p)
+        (by (amongTop (planesOf h k) (plan k) p)
         (λ a. rw (e ∙ slot-adds bs from (layerSize (h .shape) k) (planeCells (h .shape) k) (planesOf h k) (plan k) p ws (blockStart (h .shape) k) a f) (partly-more a))
         (λ a. rw (e ∙ slot-none bs from (layerSize (h .shape) k) (planeCells (h .shape) k) (planesOf h k) (plan k) p ws (blockStart (h .shape) k) a .1) (partly-same a)))

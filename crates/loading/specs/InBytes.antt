@@ -1,18 +1,18 @@
--- The planes in a card's bytes, and the coefficients that they give (document 01, "Digits and planes", "Reading and refining").
+-- The planes in a card's bytes, and the coefficients that they give (docs/CARD.md, "Plans, reading, refining"; "Refusals", reading).
 use mathlib.Core.Bool.{Bool, cond, not, _&&_, _||_}
 use mathlib.Core.List.{List}
-use Prim.Native.Nat.{ℕ, suc, _+_, _*_, _-_, _/_, _%_, _^_}
+use Prim.Native.Nat.{ℕ, suc, _+_, _*_, _/_, _%_, _^_}
 use lib.Dec.{ltb, leb, eqb}
 use lib.IntN.{ℤ, pos, _+ℤ_, _*ℤ_}
 use lib.ListN.{length, getD}
 use Rattle.digits.specs.Digits.{value, weight, firstFrom}
 use Rattle.sheet.specs.declared.Shape.{Shape}
 use Rattle.sheet.specs.Lists.{at, tabulate, total}
-use Rattle.sheet.specs.Sheet.{points, layers, layerSize, inLayer, placeIn}
+use Rattle.sheet.specs.Sheet.{points, layerSize, inLayer, placeIn}
 use Rattle.layers.specs.Layering.{ownLayer}
 use Rattle.header.specs.declared.Header.{Header}
 use Rattle.header.specs.Header.{placesMost, cellBytes, cellPoints, planesOf, planeCells}
-use Rattle.order.specs.CardOrder.{cellsBefore}
+use Rattle.order.specs.CardOrder.{slotLayer, slotPlace, slots, cellsBefore}
 use Rattle.packing.specs.Planes.{allBelow}
 
 -- bit i of the bytes from `from` on
@@ -28,13 +28,17 @@ clean bit n c = allBelow (λ i. ltb i n || eqb (bit i) 0) (cellPoints * c)
 unfoldable pub hasOne : (ℕ → ℕ) → ℕ → Bool
 hasOne bit n = not (allBelow (λ i. eqb (bit i) 0) n)
 
--- a plane is not fine where it "has a spare bit set, or is its layer's top plane with no 1"
+-- a plane is not fine where a spare bit is set, or it is its layer's top plane and has no 1
 unfoldable pub fineBits : (ℕ → ℕ) → ℕ → ℕ → Bool → Bool
 fineBits bit n c top = clean bit n c && (not top || hasOne bit n)
 
 -- is the plane at place p one of the top `want` of `count`?
-abbrev pub asked : ℕ → ℕ → ℕ → Bool
-asked count want p = ltb p count && leb count (p + want)
+abbrev pub amongTop : ℕ → ℕ → ℕ → Bool
+amongTop count want p = ltb p count && leb count (p + want)
+
+-- is layer k's plane at place p one of the plan? It loads them from the top
+abbrev pub loaded : Header → (ℕ → ℕ) → ℕ → ℕ → Bool
+loaded h plan k p = amongTop (planesOf h k) (plan k) p
 
 -- ---- the planes in a card's bytes: the header h, `long` bytes of it, then the planes
 module _ (h : Header) (long : ℕ) (bs : List ℕ) where
@@ -47,33 +51,21 @@ module _ (h : Header) (long : ℕ) (bs : List ℕ) where
   fine k p = fineBits (bitOf k p) (layerSize (h .shape) k) (planeCells (h .shape) k) (eqb (suc p) (planesOf h k))
 
   module _ (plan : ℕ → ℕ) where
-    -- is layer k's plane at place p one of the plan? It loads them from the top
-    abbrev pub loaded : ℕ → ℕ → Bool
-    loaded k p = asked (planesOf h k) (plan k) p
-
-    -- "in card order": slot t is place 22 - t / K of layer t % K, K layers in all. The first slot of the plan with a plane that is not fine
-    abbrev pub slotLayer : ℕ → ℕ
-    slotLayer t = t % layers (h .shape)
-
-    abbrev pub slotPlace : ℕ → ℕ
-    slotPlace t = placesMost - 1 - t / layers (h .shape)
-
+    -- does slot t hold a plane of the plan that is not fine?
     unfoldable pub badSlot : ℕ → Bool
-    badSlot t = loaded (slotLayer t) (slotPlace t) && not (fine (slotLayer t) (slotPlace t))
+    badSlot t = loaded h plan (slotLayer h t) (slotPlace h t) && not (fine (slotLayer h t) (slotPlace h t))
 
-    abbrev pub slots : ℕ
-    slots = placesMost * layers (h .shape)
-
+    -- the first slot that does, in card order; `slots` h where none does
     unfoldable pub firstBad : ℕ
-    firstBad = firstFrom badSlot slots 0
+    firstBad = firstFrom badSlot (slots h) 0
 
-    -- "Missing digits count as 0": the coefficient of the point that stands at place i of layer k
+    -- the coefficient of point i of layer k: digits that are not loaded count as 0
     unfoldable pub coefRead : ℕ → ℕ → ℤ
-    coefRead k i = value (tabulate (planesOf h k) (λ p. cond (loaded k p) (bitOf k p i) 0))
+    coefRead k i = value (tabulate (planesOf h k) (λ p. cond (loaded h plan k p) (bitOf k p i) 0))
 
-    -- the word of those digits: each at its place
+    -- the word of those digits, each at its place, which the table of groups speaks of
     unfoldable pub wordRead : ℕ → ℕ → ℕ
-    wordRead k i = total (λ p. cond (loaded k p) (bitOf k p i * 2 ^ p) 0) placesMost
+    wordRead k i = total (λ p. cond (loaded h plan k p) (bitOf k p i * 2 ^ p) 0) placesMost
 
     unfoldable pub coefsRead : List ℤ
     coefsRead =

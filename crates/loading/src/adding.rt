@@ -3,8 +3,8 @@ ghost use mathlib.Core.Path.{_≡_};
 ghost use Prim.Native.Nat.{ℕ, _+_, _*_, _^_, _<_, _≤_};
 ghost use lib.ListN.{length, getD};
 ghost use Rattle.header.specs.Header as Hd;
-ghost use Rattle.packing.specs.Words.{wordsMost};
-ghost use Rattle.loading.specs.Words as W;
+ghost use Rattle.packing.specs.Workings.Words.{wordsMost};
+ghost use Rattle.loading.specs.Workings.Words as W;
 
 // The numbers of the table, four of each half byte.
 pub(crate) const HALF_BITS: usize = 64;

@@ -3,13 +3,13 @@ ghost use mathlib.Core.Path.{_≡_};
 ghost use mathlib.Core.Bool.{true};
 ghost use Prim.Native.Nat.{_-_, _≤_};
 ghost use lib.ListN.{length, replicate};
-ghost use Rattle.layers.specs.Calls.{full};
+ghost use Rattle.layers.specs.Samples.{full};
 ghost use Rattle.header.specs.Plan as N;
 ghost use Rattle.header.specs.Opening as O;
-ghost use Rattle.packing.specs.Words.{wordsMost};
+ghost use Rattle.packing.specs.Workings.Words.{wordsMost};
 ghost use Rattle.loading.specs.InBytes as L;
-ghost use Rattle.loading.specs.Words as W;
-ghost use Rattle.loading.specs.Calls as C;
+ghost use Rattle.loading.specs.Workings.Words as W;
+ghost use Rattle.loading.specs.Workings.Calls as C;
 use crate::Loaded;
 use crate::Whole;
 use crate::spreading::spread;
@@ -24,7 +24,7 @@ use sheet::MOST_LAYERS;
 pub(crate) fn is_loadable(bytes: &[u8], header: Header, at: usize, coefficients: &[i32]) -> bool
     ensures { λ r. ⌜ r ≡ C.loadable (now (coefficients .entry)) (now (bytes .entry)) header at ⌝ }
 {
-    if !header::is_right(header) {
+    if !header::is_well_formed(header) {
         return false;
     }
     if bytes.len() < at {
@@ -42,10 +42,10 @@ fn load_planes(
     plan: Plan,
     coefficients: &mut [i32],
 ) -> Refusal
-    requires { ⌜ (O.right header ≡ true) × (at ≤ length (now bytes)) × (now words ≡ replicate wordsMost 0) ⌝ }
+    requires { ⌜ (O.wellFormed header ≡ true) × (at ≤ length (now bytes)) × (now words ≡ replicate wordsMost 0) ⌝ }
     requires { ⌜ full (header .shape) (now coefficients) ≡ true ⌝ }
     requires { ⌜ W.AllThere header at (now bytes) (N.loads plan) ⌝ }
-    ensures { λ r. ⌜ C.told r (now (coefficients .exit)) ≡ C.loadingWhole (now (coefficients .entry)) (now (bytes .entry)) header at plan (L.firstBad header at (now (bytes .entry)) (N.loads plan)) ⌝ }
+    ensures { λ r. ⌜ C.asLoading r (now (coefficients .exit)) ≡ C.loadingWhole (now (coefficients .entry)) (now (bytes .entry)) header at plan (L.firstBad header at (now (bytes .entry)) (N.loads plan)) ⌝ }
 {
     match load_body(bytes, at, header, plan, words) {
         Loaded::Bad(layer) => Refusal::BadPlane(layer as u64),
@@ -64,7 +64,7 @@ pub fn load(
     plan: Plan,
     coefficients: &mut [i32],
 ) -> Refusal
-    ensures { λ r. ⌜ C.told r (now (coefficients .exit)) ≡ C.loading (now (coefficients .entry)) (now (bytes .entry)) header at plan ⌝ }
+    ensures { λ r. ⌜ C.asLoading r (now (coefficients .exit)) ≡ C.loading (now (coefficients .entry)) (now (bytes .entry)) header at plan ⌝ }
 {
     if !is_loadable(bytes, header, at, coefficients) {
         return Refusal::BadLengths;
@@ -93,7 +93,7 @@ fn none_loaded(refusal: Refusal) -> Whole
 
 // Loads all planes that are whole into coefficients, and answers them as a plan. A refusal changes nothing.
 pub fn load_whole(bytes: &[u8], header: Header, at: usize, coefficients: &mut [i32]) -> Whole
-    ensures { λ r. ⌜ (C.told (r .refusal) (now (coefficients .exit)) ≡ C.allWhole (now (coefficients .entry)) (now (bytes .entry)) header at) × (r .plan ≡ C.wholeLoaded (now (coefficients .entry)) (now (bytes .entry)) header at) ⌝ }
+    ensures { λ r. ⌜ (C.asLoading (r .refusal) (now (coefficients .exit)) ≡ C.allWhole (now (coefficients .entry)) (now (bytes .entry)) header at) × (r .plan ≡ C.wholeLoaded (now (coefficients .entry)) (now (bytes .entry)) header at) ⌝ }
 {
     if !is_loadable(bytes, header, at, coefficients) {
         return none_loaded(Refusal::BadLengths);

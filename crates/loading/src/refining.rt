@@ -11,8 +11,8 @@ ghost use Rattle.sheet.specs.Sheet as S;
 ghost use Rattle.header.specs.Header as Hd;
 ghost use Rattle.packing.specs.Planes as P;
 ghost use Rattle.loading.specs.InBytes as L;
-ghost use Rattle.loading.specs.Words as W;
-ghost use Rattle.loading.specs.Calls as C;
+ghost use Rattle.loading.specs.Workings.Words as W;
+ghost use Rattle.loading.specs.Workings.Calls as C;
 use crate::loading::is_loadable;
 use crate::walking::is_fine;
 use header::CELL_BYTES;
@@ -20,7 +20,7 @@ use header::Header;
 use header::Refusal;
 use sheet::Shape;
 
-// "23 digits reach from -2,796,202 to 5,592,405"
+// The reach of 23 digits: from -2,796,202 to 5,592,405.
 const LEAST_COEFFICIENT: i32 = -2796202;
 
 const MOST_COEFFICIENT: i32 = 5592405;
@@ -70,7 +70,7 @@ fn add_line(
     stride: usize,
 )
     requires { ⌜ (from + (i + n + 7) / 8 ≤ length (now bytes)) × (i + n ≤ length (now coefficients)) × Within (2 ^ Hd.placesMost) scale ⌝ }
-    requires { ⌜ (0 < stride) × ((j : ℕ) → j < n → (first + j * stride < length (now coefficients)) × (holds Hd.placesMost (at (now coefficients) (first + j * stride)) ≡ true)) ⌝ }
+    requires { ⌜ (1 < n → 0 < stride) × ((j : ℕ) → j < n → (first + j * stride < length (now coefficients)) × (holds Hd.placesMost (at (now coefficients) (first + j * stride)) ≡ true)) ⌝ }
     ensures { λ _. ⌜ W.Scattered (λ j. first + j * stride) n (λ j. at (now (coefficients .entry)) (first + j * stride) +ℤ pos (L.bitAt (now (bytes .entry)) from (i + j)) *ℤ scale) (now (coefficients .entry)) (now (coefficients .exit)) ⌝ }
 {
     for j in 0..n {
@@ -119,7 +119,7 @@ fn add_named(
     coefficients: &mut [i32],
 ) -> Refusal
     requires { ⌜ (C.loadable (now coefficients) (now bytes) header at ≡ true) × (layer < S.layers (header .shape)) × (p < Hd.planesOf header layer) ⌝ }
-    ensures { λ r. ⌜ C.told r (now (coefficients .exit)) ≡ C.adding (now (coefficients .entry)) (now (bytes .entry)) header at layer p ⌝ }
+    ensures { λ r. ⌜ C.asLoading r (now (coefficients .exit)) ≡ C.adding (now (coefficients .entry)) (now (bytes .entry)) header at layer p ⌝ }
 {
     let shape = header.shape;
     let counts = header.planes;
@@ -148,7 +148,7 @@ pub fn add_plane(
     p: u64,
     coefficients: &mut [i32],
 ) -> Refusal
-    ensures { λ r. ⌜ C.told r (now (coefficients .exit)) ≡ C.adding (now (coefficients .entry)) (now (bytes .entry)) header at layer p ⌝ }
+    ensures { λ r. ⌜ C.asLoading r (now (coefficients .exit)) ≡ C.adding (now (coefficients .entry)) (now (bytes .entry)) header at layer p ⌝ }
 {
     if !is_loadable(bytes, header, at, coefficients) {
         return Refusal::BadLengths;

@@ -3,12 +3,12 @@ ghost use mathlib.Core.Path.{_≡_};
 ghost use mathlib.Core.Bool.{true};
 ghost use Prim.Native.Nat.{ℕ, _+_, _*_, _^_, _<_, _≤_};
 ghost use lib.ListN.{length, getD};
-ghost use Rattle.digits.specs.Digits.{value, bitsOf, groupValues};
-ghost use Rattle.sheet.specs.Lists.{at};
+ghost use Rattle.digits.specs.Digits.{value};
+ghost use Rattle.digits.specs.Groups.{bitsOf, groupValues};
 ghost use Rattle.sheet.specs.Sheet as S;
 ghost use Rattle.header.specs.Header as Hd;
-ghost use Rattle.packing.specs.Words.{wordsMost};
-ghost use Rattle.loading.specs.Words as W;
+ghost use Rattle.packing.specs.Workings.Words.{wordsMost};
+ghost use Rattle.loading.specs.Workings.Words as W;
 use digits::GROUPS;
 use header::CELL_POINTS;
 use sheet::Shape;
@@ -24,7 +24,7 @@ fn spread_line(
     stride: usize,
 )
     requires { ⌜ (now table ≡ groupValues) × (start + n ≤ length (now words)) × ((i : ℕ) → getD (now words) i 0 < 2 ^ Hd.placesMost) ⌝ }
-    requires { ⌜ (0 < stride) × ((j : ℕ) → j < n → first + j * stride < length (now coefficients)) ⌝ }
+    requires { ⌜ (1 < n → 0 < stride) × ((j : ℕ) → j < n → first + j * stride < length (now coefficients)) ⌝ }
     ensures { λ _. ⌜ W.Scattered (λ j. first + j * stride) n (λ j. value (bitsOf 32 (getD (now (words .entry)) (start + j) 0))) (now (coefficients .entry)) (now (coefficients .exit)) ⌝ }
 {
     for j in 0..n {

@@ -6,15 +6,17 @@ ghost use Prim.Native.Nat.{ℕ, _+_, _*_, _-_, _^_, _<_, _≤_};
 ghost use lib.ListN.{length, getD, replicate};
 ghost use Rattle.sheet.specs.Limits.{layersMost};
 ghost use Rattle.sheet.specs.Lists.{tabulate};
-ghost use Rattle.sheet.specs.Sheet.{sizeAt};
+ghost use Rattle.sheet.specs.Workings.Shapes.{sizeAt};
 ghost use Rattle.header.specs.Header as Hd;
+ghost use Rattle.header.specs.Workings as Wk;
 ghost use Rattle.header.specs.Plan as N;
 ghost use Rattle.header.specs.Opening as O;
 ghost use Rattle.order.specs.CardOrder as K;
+ghost use Rattle.order.specs.Workings as Ow;
 ghost use Rattle.packing.specs.Planes as P;
-ghost use Rattle.packing.specs.Words.{wordsMost};
+ghost use Rattle.packing.specs.Workings.Words.{wordsMost};
 ghost use Rattle.loading.specs.InBytes as L;
-ghost use Rattle.loading.specs.Words as W;
+ghost use Rattle.loading.specs.Workings.Words as W;
 use crate::Loaded;
 use crate::Placed;
 use crate::adding::HALF_BITS;
@@ -93,7 +95,7 @@ fn load_slot(
     start: usize,
 ) -> bool
     requires { ⌜ (p < Hd.placesMost) × (count ≤ Hd.placesMost) × (n ≤ Hd.cellPoints * cells) × (cells ≤ wordsMost) × (start + Hd.cellPoints * cells ≤ length (now words)) × (now table ≡ W.halves p) ⌝ }
-    requires { ⌜ (L.asked count want p ≡ true → from + Hd.cellBytes * cells ≤ length (now bytes)) × ((i : ℕ) → getD (now words) i 0 < 2 ^ 31) ⌝ }
+    requires { ⌜ (L.amongTop count want p ≡ true → from + Hd.cellBytes * cells ≤ length (now bytes)) × ((i : ℕ) → getD (now words) i 0 < 2 ^ 31) ⌝ }
     ensures { λ r. ⌜ (r ≡ W.slotFine (now (bytes .entry)) from n cells count want p) × (now (words .exit) ≡ W.slotWords (now (bytes .entry)) from n cells count want p (now (words .entry)) start) ⌝ }
 {
     if count <= p {
@@ -134,9 +136,9 @@ fn load_place(
     before: usize,
     words: &mut [u32],
 ) -> Placed
-    requires { ⌜ (O.right header ≡ true) × (at ≤ length (now bytes)) × (p < Hd.placesMost) × (before ≡ K.cellsBefore header 0 p) ⌝ }
-    requires { ⌜ (sizes ≡ tabulate layersMost (sizeAt (header .shape))) × (spans ≡ Hd.spansOf (header .shape)) × (now table ≡ W.halves p) ⌝ }
-    requires { ⌜ W.AllThere header at (now bytes) (N.loads plan) × W.Partly header at (now bytes) (N.loads plan) (W.slotNo header 0 p) (now words) ⌝ }
+    requires { ⌜ (O.wellFormed header ≡ true) × (at ≤ length (now bytes)) × (p < Hd.placesMost) × (before ≡ K.cellsBefore header 0 p) ⌝ }
+    requires { ⌜ (sizes ≡ tabulate layersMost (sizeAt (header .shape))) × (spans ≡ Wk.spansOf (header .shape)) × (now table ≡ W.halves p) ⌝ }
+    requires { ⌜ W.AllThere header at (now bytes) (N.loads plan) × W.Partly header at (now bytes) (N.loads plan) (Ow.slotNo header 0 p) (now words) ⌝ }
     ensures { λ r. ⌜ W.PlaceRead header at (now (bytes .entry)) (N.loads plan) p r (now (words .exit)) ⌝ }
 {
     let layers = sheet::layer_count(header.shape);
@@ -176,7 +178,7 @@ pub(crate) fn load_body(
     plan: Plan,
     words: &mut [u32],
 ) -> Loaded
-    requires { ⌜ (O.right header ≡ true) × (at ≤ length (now bytes)) × (now words ≡ replicate wordsMost 0) ⌝ }
+    requires { ⌜ (O.wellFormed header ≡ true) × (at ≤ length (now bytes)) × (now words ≡ replicate wordsMost 0) ⌝ }
     requires { ⌜ W.AllThere header at (now bytes) (N.loads plan) ⌝ }
     ensures { λ r. ⌜ (r ≡ W.loadedAs header at (now (bytes .entry)) (N.loads plan)) × (r ≡ Loaded.Fine → W.Read header at (now (bytes .entry)) (N.loads plan) (now (words .exit))) ⌝ }
 {

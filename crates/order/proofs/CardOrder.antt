@@ -11,8 +11,10 @@ use Rattle.sheet.specs.Limits.{layersMost}
 use Rattle.sheet.specs.Lists.{total}
 use Rattle.sheet.specs.Sheet.{layers}
 use Rattle.header.specs.declared.Header.{Header}
-use Rattle.header.specs.Header.{placesMost, planesOf, planeCells, cellsOf, spansOf}
-use Rattle.order.specs.CardOrder.{planesBefore, cellsBefore, cellsThrough}
+use Rattle.header.specs.Header.{placesMost, planesOf, planeCells, cellsOf}
+use Rattle.header.specs.Workings.{spansOf}
+use Rattle.order.specs.CardOrder.{planesBefore, cellsBefore}
+use Rattle.order.specs.Workings.{cellsThrough}
 use Rattle.header.proofs.Rightness.{Right, layers-few}
 use Rattle.header.proofs.Cells.{cells-there, cells-past, span-listed}
 use Rattle.header.proofs.Totals.{total-same, total-le, total-none, total-past, total-bump}

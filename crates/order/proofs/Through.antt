@@ -13,8 +13,10 @@ use Rattle.sheet.specs.Lists.{total, count}
 use Rattle.sheet.specs.Sheet.{layers}
 use Rattle.sheet.proofs.Lists.{count-same}
 use Rattle.header.specs.declared.Header.{Header}
-use Rattle.header.specs.Header.{placesMost, cellBytes, planeCellsMost, planesOf, spansOf}
-use Rattle.order.specs.CardOrder.{planesBefore, within, isWhole, whole}
+use Rattle.header.specs.Header.{placesMost, cellBytes, planesOf}
+use Rattle.header.specs.Workings.{planeCellsMost, spansOf}
+use Rattle.order.specs.CardOrder.{planesBefore, isWhole, whole}
+use Rattle.order.specs.Workings.{within}
 use Rattle.header.proofs.Rightness.{Right, all-few, counts-past}
 use Rattle.header.proofs.Totals.{total-most}
 use Rattle.order.proofs.CardOrder.{cells-through}

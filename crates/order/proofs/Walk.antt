@@ -15,8 +15,10 @@ use Rattle.sheet.specs.Limits.{layersMost}
 use Rattle.sheet.specs.Lists.{total, count}
 use Rattle.integers.proofs.Bools.{by}
 use Rattle.sheet.proofs.Lists.{count-yes, count-no, count-most, getD-zeros}
-use Rattle.header.specs.Header.{placesMost, planeCellsMost}
-use Rattle.order.specs.CardOrder.{cellsThrough, within, planesBefore, Walked}
+use Rattle.header.specs.Header.{placesMost}
+use Rattle.header.specs.Workings.{planeCellsMost}
+use Rattle.order.specs.CardOrder.{planesBefore}
+use Rattle.order.specs.Workings.{cellsThrough, within, Walked}
 use Rattle.header.proofs.Totals.{total-none}
 use Rattle.order.proofs.CardOrder.{before-passed, before-coming, before-other, before-none, before-place, sum-layer, sum-none, sum-place}
 use Rattle.order.proofs.Through.{Small, share, shares-most}

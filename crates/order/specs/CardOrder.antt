@@ -1,8 +1,11 @@
--- Card order (document 01, "The card"): "Then the planes: p from 22 down to 0, and for each p every layer with P_k > p, layer 0 first."
-use mathlib.Core.Bool.{Bool, cond, _&&_}
-use mathlib.Core.List.{List}
-use mathlib.Core.Path.{_≡_}
-use Prim.Native.Nat.{ℕ, _+_, _*_, _-_, _<_}
+-- Card order (docs/CARD.md, "The card"): for each place p from 22 down to 0, in turn every layer with P_k > p, layer 0 first.
+-- It is said in three ways, each where it serves: writing lays the planes one behind the other (`inOrder`), reading finds a plane by the cells
+-- before it (`cellsBefore`), and checks go from slot to slot (`slotLayer`, `slotPlace`). The three agree: laid so, a plane stands just behind the cells
+-- before it (`plane-stands`, proofs/Listed.antt); these are the cells of the slots before its own (`cells-slots`, proofs/Slots.antt); and every layer
+-- has one slot at every place (`slot-is`, there).
+use mathlib.Core.Bool.{Bool, cond}
+use mathlib.Core.List.{List, [], _++_}
+use Prim.Native.Nat.{ℕ, zero, suc, _+_, _*_, _-_, _/_, _%_}
 use lib.Dec.{ltb, leb}
 use lib.ListN.{length, getD}
 use Rattle.sheet.specs.Limits.{layersMost}
@@ -10,10 +13,36 @@ use Rattle.sheet.specs.Lists.{total, count, tabulate}
 use Rattle.sheet.specs.Sheet.{layers}
 use Rattle.header.specs.declared.Header.{Header}
 use Rattle.header.specs.declared.Plan.{Plan}
-use Rattle.header.specs.Header.{cellBytes, planesOf, planeCells}
-use Rattle.header.specs.Plan.{noPlan}
-use Rattle.header.specs.Opening.{right}
+use Rattle.header.specs.Header.{placesMost, cellBytes, planesOf, planeCells}
 
+-- ---- slots
+-- slot t is that of layer t % K at place 22 - t / K, K layers in all; it holds a plane where the layer has one at that place
+abbrev pub slotLayer : Header → ℕ → ℕ
+slotLayer h t = t % layers (h .shape)
+
+abbrev pub slotPlace : Header → ℕ → ℕ
+slotPlace h t = placesMost - 1 - t / layers (h .shape)
+
+-- how many there are
+abbrev pub slots : Header → ℕ
+slots h = placesMost * layers (h .shape)
+
+-- ---- the planes one behind the other, where `plane` k p has the bytes of layer k's plane at place p
+-- at place p, those of the layers before k
+unfoldable pub atPlace : Header → (ℕ → ℕ → List ℕ) → ℕ → ℕ → List ℕ
+atPlace h plane p zero = []
+atPlace h plane p (suc k) = atPlace h plane p k ++ cond (ltb p (planesOf h k)) (plane k p) []
+
+-- at the places below n, the highest first
+unfoldable pub downFrom : Header → (ℕ → ℕ → List ℕ) → ℕ → List ℕ
+downFrom h plane zero = []
+downFrom h plane (suc p) = atPlace h plane p (layers (h .shape)) ++ downFrom h plane p
+
+-- all planes
+abbrev pub inOrder : Header → (ℕ → ℕ → List ℕ) → List ℕ
+inOrder h plane = downFrom h plane placesMost
+
+-- ---- where a plane stands
 -- the planes of layer j that stand before layer k's plane at place p: those at places above p, and that at p where j comes before k
 abbrev pub planesBefore : List ℕ → ℕ → ℕ → ℕ → ℕ
 planesBefore planes k p j = getD planes j 0 - (p + cond (ltb j k) 0 1)
@@ -22,11 +51,8 @@ planesBefore planes k p j = getD planes j 0 - (p + cond (ltb j k) 0 1)
 unfoldable pub cellsBefore : Header → ℕ → ℕ → ℕ
 cellsBefore h k p = total (λ j. planeCells (h .shape) j * planesBefore (h .planes) k p j) (layers (h .shape))
 
--- the same of a plane that a header names; 0 of any other, and of a header that opening does not give
-unfoldable pub cellsBeforeIn : Header → ℕ → ℕ → ℕ
-cellsBeforeIn h k p = cond (right h && (ltb k layersMost && ltb p (planesOf h k))) (cellsBefore h k p) 0
-
--- "A plane is whole when all its cells are in the bytes given", n of them behind the header
+-- ---- which planes are whole
+-- a plane is whole where all its cells are in the bytes, n of them behind the header
 unfoldable pub isWhole : Header → ℕ → ℕ → ℕ → Bool
 isWhole h n k p = leb (cellBytes * (cellsBefore h k p + planeCells (h .shape) k)) n
 
@@ -34,34 +60,10 @@ isWhole h n k p = leb (cellBytes * (cellsBefore h k p + planeCells (h .shape) k)
 unfoldable pub whole : Header → ℕ → ℕ → ℕ
 whole h n k = cond (ltb k (layers (h .shape))) (count (isWhole h n k) (planesOf h k)) 0
 
--- as a plan: "all its whole planes"
+-- as a plan
 abbrev pub wholePlan : Header → ℕ → Plan
 wholePlan h n = record { planes = tabulate layersMost (whole h n) }
 
 -- in bytes that begin with a header of `long` bytes
 abbrev pub wholeOf : List ℕ → Header → ℕ → Plan
 wholeOf bs h long = wholePlan h (length bs - long)
-
--- behind a header that opening gives; behind any other none
-unfoldable pub wholeIn : Header → ℕ → Plan
-wholeIn h n = cond (right h) (wholePlan h n) noPlan
-
--- ---- what the loops work with
--- the cells before layer k's plane at place p, where one plane of layer j spans `spans` j cells, and those up to its end
-abbrev pub cellsPassed : List ℕ → List ℕ → ℕ → ℕ → ℕ
-cellsPassed spans planes k p = total (λ j. getD spans j 0 * planesBefore planes k p j) layersMost
-
-unfoldable pub cellsThrough : List ℕ → List ℕ → ℕ → ℕ → ℕ
-cellsThrough spans planes k p = getD spans k 0 + cellsPassed spans planes k p
-
--- does that plane end within `room` cells?
-abbrev pub within : List ℕ → List ℕ → ℕ → ℕ → ℕ → Bool
-within spans planes room k p = leb (cellsThrough spans planes k p) room
-
--- where a walk in card order comes to layer k's plane at place p: the cells of the planes passed; and of each layer the planes found, which with those
--- still to come are all that end within the room
-pub record Walked (spans planes : List ℕ) (room k p : ℕ) (found : List ℕ) (cells : ℕ) : Type 0 where
-  pub long : length found ≡ layersMost
-  pub sum : cells ≡ cellsPassed spans planes k p
-  pub rest : (j : ℕ) → j < layersMost
-      → getD found j 0 + count (within spans planes room j) (getD planes j 0 - planesBefore planes k p j) ≡ count (within spans planes room j) (getD planes j 0)

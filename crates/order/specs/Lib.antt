@@ -1,1 +1,2 @@
 pub mod CardOrder
+pub mod Workings

@@ -6,7 +6,8 @@ ghost use lib.Dec.{leb, ltb};
 ghost use lib.ListN.{getD};
 ghost use Rattle.sheet.specs.Limits.{layersMost};
 ghost use Rattle.header.specs.Header as Hd;
-ghost use Rattle.order.specs.CardOrder as K;
+ghost use Rattle.header.specs.Workings as W;
+ghost use Rattle.order.specs.Workings as Wk;
 use header::CELL_BYTES;
 use header::Header;
 use header::MOST_PLACES;
@@ -15,8 +16,8 @@ use sheet::MOST_LAYERS;
 
 // The cells up to the end of layer k's plane at place p, in card order.
 fn cells_through(spans: [u64; MOST_LAYERS], planes: [u64; MOST_LAYERS], k: usize, p: u64) -> u64
-    requires { ⌜ (k < layersMost) × ((j : ℕ) → (getD spans j 0 ≤ Hd.planeCellsMost) × (getD planes j 0 ≤ Hd.placesMost)) × (p < Hd.placesMost) ⌝ }
-    ensures { λ r. ⌜ r ≡ K.cellsThrough spans planes k p ⌝ }
+    requires { ⌜ (k < layersMost) × ((j : ℕ) → (getD spans j 0 ≤ W.planeCellsMost) × (getD planes j 0 ≤ Hd.placesMost)) × (p < Hd.placesMost) ⌝ }
+    ensures { λ r. ⌜ r ≡ Wk.cellsThrough spans planes k p ⌝ }
 {
     let mut cells = spans[k];
     for j in 0..MOST_LAYERS {
@@ -30,9 +31,9 @@ fn cells_through(spans: [u64; MOST_LAYERS], planes: [u64; MOST_LAYERS], k: usize
 
 // The cells before a layer's plane at place p, in card order; 0 where opening gives no such header or it names no such plane.
 pub fn cells_before(header: Header, layer: usize, p: u64) -> u64
-    ensures { λ r. ⌜ r ≡ K.cellsBeforeIn header layer p ⌝ }
+    ensures { λ r. ⌜ r ≡ Wk.cellsBeforeIn header layer p ⌝ }
 {
-    if !header::is_right(header) {
+    if !header::is_well_formed(header) {
         return 0;
     }
     let counts = header.planes;
@@ -83,9 +84,9 @@ fn whole_at(
     room: u64,
     before: Found,
 ) -> Found
-    requires { ⌜ ((j : ℕ) → (getD spans j 0 ≤ Hd.planeCellsMost) × (getD counts j 0 ≤ Hd.placesMost)) ⌝ }
-    requires { ⌜ K.Walked spans counts room 0 p (before .planes) (before .cells) ⌝ }
-    ensures { λ r. ⌜ K.Walked spans counts room layersMost p (r .planes) (r .cells) ⌝ }
+    requires { ⌜ ((j : ℕ) → (getD spans j 0 ≤ W.planeCellsMost) × (getD counts j 0 ≤ Hd.placesMost)) ⌝ }
+    requires { ⌜ Wk.Walked spans counts room 0 p (before .planes) (before .cells) ⌝ }
+    ensures { λ r. ⌜ Wk.Walked spans counts room layersMost p (r .planes) (r .cells) ⌝ }
 {
     let mut planes = before.planes;
     let mut cells = before.cells;
@@ -99,10 +100,10 @@ fn whole_at(
 // The planes that are whole in n bytes behind a header that opening can give; none behind any other.
 // One walk in card order finds them all.
 pub fn whole_planes(header: Header, n: usize) -> Plan
-    ensures { λ r. ⌜ r ≡ K.wholeIn header n ⌝ }
+    ensures { λ r. ⌜ r ≡ Wk.wholeIn header n ⌝ }
 {
     let planes = [0u64; MOST_LAYERS];
-    if !header::is_right(header) {
+    if !header::is_well_formed(header) {
         return Plan { planes };
     }
     let spans = header.spans();

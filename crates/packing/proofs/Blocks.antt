@@ -12,7 +12,7 @@ use Rattle.sheet.specs.Sheet.{accepted, layers, layerSize}
 use Rattle.header.specs.Header.{cellPoints, planeCells}
 use Rattle.header.proofs.Totals.{total-rises}
 use Rattle.header.proofs.Total.{plane-room, layers-most}
-use Rattle.packing.specs.Words.{blockStart, wordsMost}
+use Rattle.packing.specs.Workings.Words.{blockStart, wordsMost}
 
 -- a sum of multiples
 total-times : (f : ℕ → ℕ) (n : ℕ) → total (λ j. cellPoints * f j) n ≡ cellPoints * total f n

@@ -17,24 +17,26 @@ use Rattle.sheet.specs.declared.Curve.{Curve}
 use Rattle.sheet.specs.Limits.{layersMost, stepMost}
 use Rattle.sheet.specs.Lists.{at, tabulate}
 use Rattle.sheet.specs.Sheet.{accepted, layers, layerSize}
-use Rattle.layers.specs.Calls.{settled, full}
+use Rattle.layers.specs.Samples.{full}
+use Rattle.layers.specs.Workings.Calls.{settled}
 use Rattle.layers.proofs.Answers.{settled-yes}
 use Rattle.sheet.proofs.Lists.{getD-tabulate}
 use Rattle.sheet.proofs.Places.{place-in}
 use Rattle.header.specs.declared.Header.{Header}
-use Rattle.header.specs.Header.{placesMost, cellBytes, cellsMost, cellsOf, textMost, headerText}
-use Rattle.header.specs.Opening.{planesMost, cellsNamed, right}
+use Rattle.header.specs.Header.{placesMost, cellBytes, cellsOf, headerText}
+use Rattle.header.specs.Workings.{cellsMost, textMost, cellsNamed}
+use Rattle.header.specs.Opening.{planesMost, wellFormed}
 use Rattle.header.proofs.Rightness.{Right, counts-by, right-yes, right-by, most-some, few-planes}
 use Rattle.text.proofs.Stores.{sets-sets}
+use Rattle.order.specs.CardOrder.{inOrder}
 use Rattle.header.proofs.TextLength.{right-fits}
 use Rattle.header.proofs.Total.{right-cells}
-use Rattle.text.specs.Text.{after, putting}
+use Rattle.text.specs.Workings.{after, putting}
 use Rattle.text.proofs.Fitting.{put-fits, put-over}
 use Rattle.packing.specs.Planes.{enough, planesFor, countsFor, headerFor, body, cardOf, allHeld}
-use Rattle.packing.specs.Words.{Gathered, countAt, flatDown, flatCard}
-use Rattle.packing.specs.Calls.{cardFor}
-use Rattle.packing.proofs.BodyOrder.{body-length}
-use Rattle.packing.proofs.FlatPlanes.{flat-body}
+use Rattle.packing.specs.Workings.Words.{Gathered, countAt, wordPlane, flatCard}
+use Rattle.packing.specs.Workings.Calls.{cardFor}
+use Rattle.packing.proofs.FlatPlanes.{words-length, flat-body}
 use Rattle.packing.proofs.HeldLayers.{enough-by}
 use Rattle.packing.proofs.Needed.{counts-same}
 
@@ -78,29 +80,32 @@ module _ (sh : Shape) (ok : accepted sh ≡ true) (qs : List ℤ) where
     card-length = length-append (headerText (headerFor sh curve e qs)) (body (headerFor sh curve e qs) qs)
 
 -- ---- what is put: a header's text and the planes from words, where both fit; else nothing
-module _ (h : Header) (r : right h ≡ true) (ws : List ℕ) (long : length (flatDown (h .shape) (h .planes) ws placesMost) ≡ cellBytes * h .cells) (out : List ℕ) where
+module _ (h : Header) (r : wellFormed h ≡ true) (ws : List ℕ) where
   abbrev planes : List ℕ
-  planes = flatDown (h .shape) (h .planes) ws placesMost
+  planes = inOrder h (wordPlane (h .shape) ws)
+
+  pub planes-long : length planes ≡ cellBytes * h .cells
+  planes-long = let ok = right-yes h r in words-length h ws (few-planes ok) ∙ ap (λ (n : ℕ). cellBytes * n) (sym (ok .cells))
 
   flat-length : length (flatCard h ws) ≡ length (headerText h) + cellBytes * h .cells
   unfolding flatCard
-  flat-length = length-append (headerText h) planes ∙ ap (λ (n : ℕ). length (headerText h) + n) long
+  flat-length = length-append (headerText h) planes ∙ ap (λ (n : ℕ). length (headerText h) + n) planes-long
 
   pub flat-few : length (headerText h) + cellBytes * h .cells ≤ textMost + cellBytes * cellsMost
   flat-few = omega (arith, right-fits (right-yes h r), right-cells (right-yes h r))
 
-  pub flat-none : length out < length (headerText h) + cellBytes * h .cells → (0 ≡ after out 0 (flatCard h ws)) × (out ≡ putting out 0 (flatCard h ws))
-  flat-none l = let over = put-over out 0 (flatCard h ws) (omega (arith, flat-length)) in (sym (over .0), sym (over .1))
+  pub flat-none : (out : List ℕ) → length out < length (headerText h) + cellBytes * h .cells → (0 ≡ after out 0 (flatCard h ws)) × (out ≡ putting out 0 (flatCard h ws))
+  flat-none out l = let over = put-over out 0 (flatCard h ws) (omega (arith, flat-length)) in (sym (over .0), sym (over .1))
 
-  pub flat-all : length (headerText h) + cellBytes * h .cells ≤ length out → (n : ℕ) (mid end : List ℕ) → mid ≡ putting out 0 (headerText h)
+  pub flat-all : (out : List ℕ) → length (headerText h) + cellBytes * h .cells ≤ length out → (n : ℕ) (mid end : List ℕ) → mid ≡ putting out 0 (headerText h)
       → n ≡ length (headerText h) + length planes → end ≡ sets mid (length (headerText h)) planes → (n ≡ after out 0 (flatCard h ws)) × (end ≡ putting out 0 (flatCard h ws))
-  flat-all l n mid end a x b =
+  flat-all out l n mid end a x b =
       let whole : sets (sets out 0 (headerText h)) (0 + length (headerText h)) planes ≡ sets out 0 (flatCard h ws) =
       unfold flatCard in (sets-sets out 0 (headerText h) planes) in
       let from : length (headerText h) ≡ 0 + length (headerText h) = omega arith in
       let text = put-fits out 0 (headerText h) (omega arith) in
       let all = put-fits out 0 (flatCard h ws) (omega (arith, flat-length)) in (
-        omega (arith, x, long, flat-length, all .0),
+        omega (arith, x, planes-long, flat-length, all .0),
         b ∙ ap₂ (λ (x : List ℕ) (m : ℕ). sets x m planes) (a ∙ text .1) from
             ∙ whole ∙ sym (all .1),
       )
@@ -156,17 +161,12 @@ module _ (sh : Shape) (e : ℕ) (settles : settled sh e ≡ true) (curve : Curve
         ap₂ (λ (a : List ℕ) (b : ℕ). record { shape = sh; curve = curve; step = e; planes = a; cells = b }) planes-are
         (named ∙ ap (cellsNamed sh) planes-are ∙ cells-named sh ok qs)
 
-    pub made-right : right made ≡ true
-    made-right = ap right made-is ∙ right-by H (header-right sh ok qs curve e step)
-
-    down-is : (h : Header) → h ≡ H → flatDown (h .shape) (h .planes) ws placesMost ≡ body H qs
-    down-is h x = ap (λ (h : Header). flatDown (h .shape) (h .planes) ws placesMost) x ∙ flat-body H qs ws all (λ j hj. each j)
-
-    pub made-long : length (flatDown sh planes ws placesMost) ≡ cellBytes * cells
-    made-long =
-        ap length (down-is made made-is) ∙ body-length H qs (few-planes (header-right sh ok qs curve e step))
-        ∙ ap (λ (h : Header). cellBytes * h .cells) (sym made-is)
+    pub made-right : wellFormed made ≡ true
+    made-right = ap wellFormed made-is ∙ right-by H (header-right sh ok qs curve e step)
 
     pub card-is : flatCard made ws ≡ cardFor sh curve e qs
     unfolding flatCard cardFor cardOf
-    card-is = rw (settles, filled, held) (ap₂ (λ (x : List ℕ) (y : List ℕ). x ++ y) (ap headerText made-is) (down-is made made-is))
+    card-is =
+        rw (settles, filled, held)
+        (ap (λ (h : Header). headerText h ++ inOrder h (wordPlane (h .shape) ws)) made-is
+        ∙ ap (λ (x : List ℕ). headerText H ++ x) (flat-body H (few-planes (header-right sh ok qs curve e step)) qs ws all (λ j _. each j)))

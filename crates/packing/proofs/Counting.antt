@@ -22,7 +22,7 @@ use Rattle.sheet.specs.Sheet.{layers, layerSize}
 use Rattle.sheet.proofs.Lists.{length-tabulate, getD-tabulate, getD-zeros}
 use Rattle.header.specs.Header.{placesMost}
 use Rattle.packing.specs.Planes.{allBelow}
-use Rattle.packing.specs.Words.{offset, numberOf, countOf, countAt, blockStart}
+use Rattle.packing.specs.Workings.Words.{offset, numberOf, countOf, countAt, blockStart}
 use Rattle.packing.proofs.All.{all-by, all-at}
 
 -- ---- d digits hold the number of the word w

@@ -1,16 +1,15 @@
--- The planes from the words: digit p of a coefficient is bit p of its word, turned over at an odd place, and a spare word is that of 0, whose digits are all 0. So bit by bit a plane from the words is the plane of the coefficients, and place by place, layer by layer all planes are.
+-- The planes from the words: digit p of a coefficient is bit p of its word, turned over at an odd place, and a spare word is that of 0, whose digits are all 0. So bit by bit a plane from the words is the plane of the coefficients, and equal planes give equal bytes in order (`order`, proofs/Listed.antt).
 use mathlib.Core.Path.{_≡_, refl, sym, ap, ap₂, _∙_}
 use mathlib.Core.Bool.{true, cond}
-use mathlib.Core.List.{List, [], _++_, append-nil}
+use mathlib.Core.List.{List}
 use Prim.Native.Nat.{ℕ, zero, suc, _+_, _-_, _*_, _/_, _%_, _^_, _<_, _≤_}
-use native.Mathlib.Nat.{le-refl}
 use native.Mathlib.Numerals.{add-one}
 use native.Mathlib.Omega.{arith}
 use lib.Dec.{ltb, eqb}
 use lib.IntN.{ℤ, pos, natAbs, _+ℤ_}
-use lib.ListN.{length, getD, length-append}
+use lib.ListN.{length, getD}
 use lib.Seq.{sets}
-use borrow.Author.Tests.{lt-ltb, le-ltb, ltb-true, eq-eqb, ne-eqb}
+use borrow.Author.Tests.{ltb-true, eq-eqb, ne-eqb}
 use Rattle.integers.proofs.Bools.{by}
 use Rattle.digits.specs.Digits.{evens, odds, digitAt, holds}
 use Rattle.digits.proofs.Range.{Holds, holds-yes, range-23}
@@ -19,14 +18,15 @@ use Rattle.digits.proofs.Offset.{flipAt, digit-offset}
 use Rattle.sheet.specs.declared.Shape.{Shape}
 use Rattle.sheet.specs.Lists.{at}
 use Rattle.sheet.specs.Sheet.{points, layers, layerSize, pointOf}
-use Rattle.sheet.proofs.Rises.{rises}
 use Rattle.sheet.proofs.Lists.{length-tabulate, getD-tabulate, tabulate-same}
 use Rattle.sheet.proofs.Places.{point-on}
 use Rattle.header.specs.declared.Header.{Header}
-use Rattle.header.specs.Header.{placesMost, cellBytes, cellPoints, planesOf, planeCells}
+use Rattle.header.specs.Header.{placesMost, cellBytes, cellPoints, planesOf, planeCells, cellsOf}
+use Rattle.order.specs.CardOrder.{atPlace, inOrder}
+use Rattle.order.proofs.Listed.{place-yes, place-no, place-room, order-same, order-length}
 use Rattle.text.proofs.Stores.{Put, put-none, put-more}
-use Rattle.packing.specs.Planes.{packed, planeBit, planeBytes, atPlace, downFrom, body}
-use Rattle.packing.specs.Words.{offset, wordOf, blockStart, Gathered, turned, digitIn, flatPlane, flatPlace, flatDown}
+use Rattle.packing.specs.Planes.{packed, planeBit, planeBytes, body}
+use Rattle.packing.specs.Workings.Words.{offset, wordOf, blockStart, Gathered, turned, digitIn, flatPlane, wordPlane}
 use Rattle.packing.proofs.Packing.{Bits, packed-same, packed-turned}
 
 -- ---- a byte of digits from a byte of bits
@@ -60,68 +60,45 @@ module _ (ws : List ℕ) (start c p : ℕ) where
   flat-byte b first h e =
       ap (λ (x : ℕ). packed 8 (λ j. digitIn ws p (x + j))) e ∙ sym (getD-tabulate (cellBytes * c) (λ b. packed 8 (λ j. digitIn ws p (start + 8 * b + j))) b 0 h)
 
--- ---- the planes at a place
-module _ (sh : Shape) (planes ws : List ℕ) (p : ℕ) where
-  pub place-yes : (k : ℕ) → p < getD planes k 0
-      → flatPlace sh planes ws p (k + 1) ≡ flatPlace sh planes ws p k ++ flatPlane ws (blockStart sh k) (planeCells sh k) p
-  unfolding flatPlace
-  place-yes k h = rw (add-one k, lt-ltb p (getD planes k 0) h)
+-- ---- the planes in order
+module _ (h : Header) (ws : List ℕ) where
+  abbrev plane : ℕ → ℕ → List ℕ
+  plane = wordPlane (h .shape) ws
 
-  pub place-no : (k : ℕ) → getD planes k 0 ≤ p → flatPlace sh planes ws p (k + 1) ≡ flatPlace sh planes ws p k
-  unfolding flatPlace
-  place-no k h = rw (add-one k, le-ltb p (getD planes k 0) h) (append-nil (flatPlace sh planes ws p k))
+  long : (k p : ℕ) → k < layers (h .shape) → p < planesOf h k → length (plane k p) ≡ cellBytes * planeCells (h .shape) k
+  long k p _ _ = flat-length ws (blockStart (h .shape) k) (planeCells (h .shape) k) p
 
-  place-next : (k : ℕ) → length (flatPlace sh planes ws p k) ≤ length (flatPlace sh planes ws p (suc k))
-  unfolding flatPlace
-  place-next k = rw length-append (omega arith)
-
-  place-rises : (m n : ℕ) → m ≤ n → length (flatPlace sh planes ws p m) ≤ length (flatPlace sh planes ws p n)
-  place-rises = rises (λ k. length (flatPlace sh planes ws p k)) place-next
+  pub words-length : ((j : ℕ) → j < layers (h .shape) → planesOf h j ≤ placesMost) → length (inOrder h plane) ≡ cellBytes * cellsOf (h .shape) (h .planes)
+  words-length few = order-length h plane long few
 
   -- a plane of layer k has room behind those of the layers before it
-  pub place-room : (k : ℕ) → k < layers sh → p < getD planes k 0
-      → length (flatPlace sh planes ws p k) + cellBytes * planeCells sh k ≤ length (flatPlace sh planes ws p (layers sh))
-  place-room k h l =
-      let next : k + 1 ≤ layers sh = omega arith in
-      let plane = flatPlane ws (blockStart sh k) (planeCells sh k) p in
-      omega (arith, place-rises (k + 1) (layers sh) next, ap length (place-yes k l), length-append (flatPlace sh planes ws p k) plane, flat-length ws (blockStart sh k) (planeCells sh k) p)
+  pub words-room : (p k : ℕ) → k < layers (h .shape) → p < planesOf h k
+      → length (atPlace h plane p k) + cellBytes * planeCells (h .shape) k ≤ length (atPlace h plane p (layers (h .shape)))
+  words-room p k l m = place-room h plane long p k l m
 
-  -- those of the layers before k stand in `out`, which was d, from `at` on: `to` is the byte after them
-  module _ (d : List ℕ) (at : ℕ) where
+  -- those at place p of the layers before k stand in `out`, which was d, from `at` on: `to` is the byte after them
+  module _ (p : ℕ) (d : List ℕ) (at : ℕ) where
     abbrev pub Laid : ℕ → ℕ → List ℕ → Type 0
-    Laid k to out = Put d at (flatPlace sh planes ws p k) out to
+    Laid k to out = Put d at (atPlace h plane p k) out to
 
     pub laid-none : Laid 0 at d
-    unfolding flatPlace
+    unfolding atPlace
     laid-none = put-none d at
 
     -- layer k's plane is stored behind them
-    pub laid-yes : (k start c to to′ : ℕ) (out out′ : List ℕ) → p < getD planes k 0 → start ≡ blockStart sh k → c ≡ planeCells sh k
+    pub laid-yes : (k start c to to′ : ℕ) (out out′ : List ℕ) → p < planesOf h k → start ≡ blockStart (h .shape) k → c ≡ planeCells (h .shape) k
         → Laid k to out → to′ ≡ to + cellBytes * c → out′ ≡ sets out to (flatPlane ws start c p) → Laid (k + 1) to′ out′
-    laid-yes k start c to to′ out out′ h a b l e f =
-        let plane = flatPlane ws (blockStart sh k) (planeCells sh k) p in
-        let is : flatPlane ws start c p ≡ plane = ap₂ (λ (start c : ℕ). flatPlane ws start c p) a b in
-        rw (place-yes k h) (put-more plane out′ to′ l (omega (arith, flat-length ws (blockStart sh k) (planeCells sh k) p)) (f ∙ ap (sets out to) is))
+    laid-yes k start c to to′ out out′ m a b l e f =
+        let is : flatPlane ws start c p ≡ plane k p = ap₂ (λ (start c : ℕ). flatPlane ws start c p) a b in
+        rw (add-one k, place-yes h plane p k m)
+        (put-more (plane k p) out′ to′ l (omega (arith, flat-length ws (blockStart (h .shape) k) (planeCells (h .shape) k) p)) (f ∙ ap (sets out to) is))
 
     -- or it has none
-    pub laid-no : (k to to′ : ℕ) (out out′ : List ℕ) → getD planes k 0 ≤ p → Laid k to out → to′ ≡ to → out′ ≡ out → Laid (k + 1) to′ out′
-    laid-no k to to′ out out′ h l e f = rw (place-no k h, e, f) l
+    pub laid-no : (k to to′ : ℕ) (out out′ : List ℕ) → planesOf h k ≤ p → Laid k to out → to′ ≡ to → out′ ≡ out → Laid (k + 1) to′ out′
+    laid-no k to to′ out out′ m l e f = rw (add-one k, place-no h plane p k m, e, f) l
 
-    pub laid-all : (k to : ℕ) (out : List ℕ) → k ≡ layers sh → Laid k to out → Laid (layers sh) to out
+    pub laid-all : (k to : ℕ) (out : List ℕ) → k ≡ layers (h .shape) → Laid k to out → Laid (layers (h .shape)) to out
     laid-all k to out e l = rw e at l
-
-module _ (sh : Shape) (planes ws : List ℕ) where
-  pub down-none : flatDown sh planes ws 0 ≡ []
-  unfolding flatDown
-  down-none = refl
-
-  pub down-more : (p : ℕ) → flatDown sh planes ws (p + 1) ≡ flatPlace sh planes ws p (layers sh) ++ flatDown sh planes ws p
-  unfolding flatDown
-  down-more p = rw (add-one p)
-
-  -- the highest place first
-  pub down-some : (n : ℕ) → 0 < n → flatDown sh planes ws n ≡ flatPlace sh planes ws (n - 1) (layers sh) ++ flatDown sh planes ws (n - 1)
-  down-some n h = let e : n ≡ n - 1 + 1 = omega arith in ap (flatDown sh planes ws) e ∙ down-more (n - 1)
 
 -- ---- digits from words
 turned-flip : (p b : ℕ) → turned p b ≡ flipAt (p % 2) b
@@ -179,19 +156,8 @@ module _ (sh : Shape) (qs : List ℤ) (ws : List ℕ) (all : Gathered sh qs ws) 
       ap (digitIn ws p) e ∙ flat-bit k p (8 * b + j) hk hp (omega arith)))
 
 -- and so all of them
-module _ (h : Header) (qs : List ℤ) (ws : List ℕ) (all : Gathered (h .shape) qs ws) (held : (j : ℕ) → j < points (h .shape) → holds placesMost (at qs j) ≡ true) where
-  place-is : (p k : ℕ) → p < placesMost → k ≤ layers (h .shape) → flatPlace (h .shape) (h .planes) ws p k ≡ atPlace h qs p k
-  unfolding flatPlace atPlace
-  place-is p zero hp hk = refl
-  place-is p (suc k) hp hk =
-      ap₂ (λ (a b : List ℕ). a ++ b) (place-is p k hp (omega arith))
-      (ap (λ (x : List ℕ). cond (ltb p (planesOf h k)) x []) (flat-is (h .shape) qs ws all held k p hk hp))
-
-  down-is : (n : ℕ) → n ≤ placesMost → flatDown (h .shape) (h .planes) ws n ≡ downFrom h qs n
-  unfolding flatDown downFrom
-  down-is zero hn = refl
-  down-is (suc n) hn = ap₂ (λ (a b : List ℕ). a ++ b) (place-is n (layers (h .shape)) hn (le-refl _)) (down-is n (omega arith))
-
-  pub flat-body : flatDown (h .shape) (h .planes) ws placesMost ≡ body h qs
-  unfolding body
-  flat-body = down-is placesMost (le-refl placesMost)
+pub flat-body : (h : Header) → ((j : ℕ) → j < layers (h .shape) → planesOf h j ≤ placesMost) → (qs : List ℤ) (ws : List ℕ) → Gathered (h .shape) qs ws
+    → ((j : ℕ) → j < points (h .shape) → holds placesMost (at qs j) ≡ true) → inOrder h (wordPlane (h .shape) ws) ≡ body h qs
+unfolding body
+flat-body h few qs ws all held =
+    order-same h (wordPlane (h .shape) ws) (planeBytes (h .shape) qs) (λ k p hk hp. flat-is (h .shape) qs ws all held k p hk (omega (arith, few k hk)))

@@ -16,7 +16,7 @@ use Rattle.sheet.specs.Lists.{at, tabulate}
 use Rattle.sheet.specs.Sheet.{accepted, layers, layerSize, pointOf}
 use Rattle.header.specs.Header.{cellPoints, planeCells}
 use Rattle.header.proofs.Total.{plane-room}
-use Rattle.packing.specs.Words.{offset, wordOf, blockStart, wordsMost, Gathered}
+use Rattle.packing.specs.Workings.Words.{offset, wordOf, blockStart, wordsMost, Gathered}
 use Rattle.packing.proofs.Blocks.{block-next, blocks-apart, layer-room, block-room}
 use Rattle.packing.proofs.Runs.{sets-in, sets-out}
 

@@ -29,7 +29,7 @@ use Rattle.header.specs.Plan.{firstOver}
 use Rattle.header.proofs.Over.{over-none, none-over}
 use Rattle.header.proofs.Total.{plane-room}
 use Rattle.packing.specs.Planes.{allBelow, enough, planesFor, allHeld}
-use Rattle.packing.specs.Words.{wordOf, numberOf, blockStart, Gathered, countOf, countAt}
+use Rattle.packing.specs.Workings.Words.{wordOf, numberOf, blockStart, Gathered, countOf, countAt}
 use Rattle.packing.proofs.All.{all-at, all-by}
 use Rattle.packing.proofs.Counting.{reach-yes}
 use Rattle.packing.proofs.FlatPlanes.{zero-holds}

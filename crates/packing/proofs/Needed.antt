@@ -23,7 +23,7 @@ use Rattle.sheet.proofs.Places.{point-on, point-in, place-in, point-place}
 use Rattle.header.specs.Header.{placesMost}
 use Rattle.header.proofs.Total.{plane-room}
 use Rattle.packing.specs.Planes.{allBelow, enough, planesFor, countsFor}
-use Rattle.packing.specs.Words.{offset, wordOf, numberOf, blockStart, Gathered, countOf, countAt}
+use Rattle.packing.specs.Workings.Words.{offset, wordOf, numberOf, blockStart, Gathered, countOf, countAt}
 use Rattle.packing.proofs.All.{all-by, all-at, both-ways}
 use Rattle.packing.proofs.HeldLayers.{enough-yes, enough-by}
 

@@ -1,6 +1,6 @@
--- The planes of a card (document 01, "Digits and planes" and "The card").
+-- The planes of coefficients, and the card that they make (docs/CARD.md, "Planes" and "The card").
 use mathlib.Core.Bool.{Bool, true, cond, not, _&&_, _||_}
-use mathlib.Core.List.{List, [], _++_}
+use mathlib.Core.List.{List, _++_}
 use Prim.Native.Nat.{ℕ, zero, suc, _+_, _*_}
 use lib.Dec.{ltb}
 use lib.IntN.{ℤ}
@@ -12,7 +12,8 @@ use Rattle.sheet.specs.Limits.{layersMost}
 use Rattle.sheet.specs.Lists.{at, tabulate}
 use Rattle.sheet.specs.Sheet.{points, layers, inLayer, layerSize, pointOf}
 use Rattle.header.specs.declared.Header.{Header}
-use Rattle.header.specs.Header.{placesMost, cellBytes, planesOf, planeCells, cellsOf, headerText}
+use Rattle.header.specs.Header.{placesMost, cellBytes, planeCells, cellsOf, headerText}
+use Rattle.order.specs.CardOrder.{inOrder}
 
 -- ---- tests over the first n numbers
 unfoldable pub allBelow : (ℕ → Bool) → ℕ → Bool
@@ -25,35 +26,25 @@ unfoldable pub packed : ℕ → (ℕ → ℕ) → ℕ
 packed zero f = 0
 packed (suc n) f = f 0 + 2 * packed n (λ i. f (suc i))
 
--- bit i of layer k's plane at place p: the digit of the layer's point i; "spare bits are 0"
+-- bit i of layer k's plane at place p: the digit of the layer's point i; spare bits are 0
 unfoldable pub planeBit : Shape → List ℤ → ℕ → ℕ → ℕ → ℕ
 planeBit sh qs k p i = cond (ltb i (layerSize sh k)) (digitAt (at qs (pointOf sh k i)) p) 0
 
--- "Point i of a layer is, in each plane, the bit of weight 2^(i mod 8) in byte i/8 rounded down. A plane fills whole cells of 32 bytes".
+-- point i is the bit of weight 2^(i mod 8) in byte i / 8 rounded down; a plane fills whole cells
 unfoldable pub planeBytes : Shape → List ℤ → ℕ → ℕ → List ℕ
 planeBytes sh qs k p = tabulate (cellBytes * planeCells sh k) (λ b. packed 8 (λ j. planeBit sh qs k p (8 * b + j)))
 
--- ---- all planes
--- "for each p every layer with P_k > p, layer 0 first": those of the layers before k
-unfoldable pub atPlace : Header → List ℤ → ℕ → ℕ → List ℕ
-atPlace h qs p zero = []
-atPlace h qs p (suc k) = atPlace h qs p k ++ cond (ltb p (planesOf h k)) (planeBytes (h .shape) qs k p) []
-
--- "p from 22 down to 0": those at the places below n
-unfoldable pub downFrom : Header → List ℤ → ℕ → List ℕ
-downFrom h qs zero = []
-downFrom h qs (suc p) = atPlace h qs p (layers (h .shape)) ++ downFrom h qs p
-
+-- all planes, in card order
 unfoldable pub body : Header → List ℤ → List ℕ
-body h qs = downFrom h qs placesMost
+body h qs = inOrder h (planeBytes (h .shape) qs)
 
 -- ---- the header of coefficients
 -- do n digits hold every coefficient of layer k?
 unfoldable pub enough : Shape → List ℤ → ℕ → ℕ → Bool
 enough sh qs k n = allBelow (λ p. not (inLayer sh k p) || holds n (at qs p)) (points sh)
 
--- "P_k is the fewest digits that hold every q of layer k (0 where all are 0 or the layer is empty)"; past the last layer 0 stands. 23 digits are
--- "enough for every accepted sheet" (`Writes.coefs-hold` of `card`), so the search ends there
+-- P_k: the fewest digits that hold every coefficient of layer k; past the last layer 0. 23 digits are enough for every sheet that is accepted
+-- (`card`, proofs/Writes, `coefs-hold`), so the search ends there
 unfoldable pub planesFor : Shape → List ℤ → ℕ → ℕ
 planesFor sh qs k = cond (ltb k (layers sh)) (firstFrom (enough sh qs k) placesMost 0) 0
 
@@ -64,7 +55,7 @@ abbrev pub headerFor : Shape → Curve → ℕ → List ℤ → Header
 headerFor sh curve e qs =
     record { shape = sh; curve = curve; step = e; planes = countsFor sh qs; cells = cellsOf sh (countsFor sh qs) }
 
--- does every coefficient lie in "the 23-digit range"?
+-- do 23 digits hold every coefficient?
 unfoldable pub allHeld : List ℤ → Bool
 allHeld qs = allBelow (λ j. holds placesMost (at qs j)) (length qs)
 

@@ -6,13 +6,13 @@ ghost use lib.ListN.{length, getD};
 ghost use lib.Seq.{sets};
 ghost use Rattle.sheet.specs.Sheet as S;
 ghost use Rattle.header.specs.Header as Hd;
+ghost use Rattle.order.specs.CardOrder as O;
 ghost use Rattle.packing.specs.Planes as P;
-ghost use Rattle.packing.specs.Words as W;
+ghost use Rattle.packing.specs.Workings.Words as W;
 use header::CELL_BYTES;
 use header::CELL_POINTS;
+use header::Header;
 use header::MOST_PLACES;
-use sheet::MOST_LAYERS;
-use sheet::Shape;
 
 // Bit p of eight words as a byte, the first word lowest.
 fn eight_bits(words: &[u32], first: usize, p: u64) -> u8
@@ -48,24 +48,17 @@ fn put_plane(words: &[u32], start: usize, cells: usize, p: u64, out: &mut [u8], 
 }
 
 // The planes at place p of every layer that has one; answers the byte after them.
-fn put_place(
-    words: &[u32],
-    shape: Shape,
-    planes: [u64; MOST_LAYERS],
-    p: u64,
-    out: &mut [u8],
-    at: usize,
-) -> usize
-    requires { ⌜ (S.accepted shape ≡ true) × (p < Hd.placesMost) × (length (now words) ≡ W.wordsMost) ⌝ }
-    requires { ⌜ at + length (W.flatPlace shape planes (now words) p (S.layers shape)) ≤ length (now out) ⌝ }
-    ensures { λ r. ⌜ (r ≡ at + length (W.flatPlace shape planes (now (words .entry)) p (S.layers shape))) × (now (out .exit) ≡ sets (now (out .entry)) at (W.flatPlace shape planes (now (words .entry)) p (S.layers shape))) ⌝ }
+fn put_place(words: &[u32], header: Header, p: u64, out: &mut [u8], at: usize) -> usize
+    requires { ⌜ (S.accepted (header .shape) ≡ true) × (p < Hd.placesMost) × (length (now words) ≡ W.wordsMost) ⌝ }
+    requires { ⌜ at + length (O.atPlace header (W.wordPlane (header .shape) (now words)) p (S.layers (header .shape))) ≤ length (now out) ⌝ }
+    ensures { λ r. ⌜ (r ≡ at + length (O.atPlace header (W.wordPlane (header .shape) (now (words .entry))) p (S.layers (header .shape)))) × (now (out .exit) ≡ sets (now (out .entry)) at (O.atPlace header (W.wordPlane (header .shape) (now (words .entry))) p (S.layers (header .shape)))) ⌝ }
 {
-    let layers = sheet::layer_count(shape);
+    let layers = sheet::layer_count(header.shape);
     let mut start: usize = 0;
     let mut to = at;
     for k in 0..layers {
-        let cells = header::plane_cells(shape, k) as usize;
-        if p < planes[k] {
+        let cells = header::plane_cells(header.shape, k) as usize;
+        if p < header.planes[k] {
             to = put_plane(words, start, cells, p, out, to);
         }
         start += CELL_POINTS * cells;
@@ -74,22 +67,16 @@ fn put_place(
 }
 
 // All planes in card order, from the highest place down; answers the byte after them.
-pub(crate) fn put_body(
-    words: &[u32],
-    shape: Shape,
-    planes: [u64; MOST_LAYERS],
-    out: &mut [u8],
-    at: usize,
-) -> usize
-    requires { ⌜ (S.accepted shape ≡ true) × (length (now words) ≡ W.wordsMost) ⌝ }
-    requires { ⌜ at + length (W.flatDown shape planes (now words) Hd.placesMost) ≤ length (now out) ⌝ }
-    ensures { λ r. ⌜ (r ≡ at + length (W.flatDown shape planes (now (words .entry)) Hd.placesMost)) × (now (out .exit) ≡ sets (now (out .entry)) at (W.flatDown shape planes (now (words .entry)) Hd.placesMost)) ⌝ }
+pub(crate) fn put_body(words: &[u32], header: Header, out: &mut [u8], at: usize) -> usize
+    requires { ⌜ (S.accepted (header .shape) ≡ true) × (length (now words) ≡ W.wordsMost) ⌝ }
+    requires { ⌜ at + length (O.inOrder header (W.wordPlane (header .shape) (now words))) ≤ length (now out) ⌝ }
+    ensures { λ r. ⌜ (r ≡ at + length (O.inOrder header (W.wordPlane (header .shape) (now (words .entry))))) × (now (out .exit) ≡ sets (now (out .entry)) at (O.inOrder header (W.wordPlane (header .shape) (now (words .entry))))) ⌝ }
 {
     let mut left = MOST_PLACES;
     let mut to = at;
     while 0 < left {
         left -= 1;
-        to = put_place(words, shape, planes, left, out, to);
+        to = put_place(words, header, left, out, to);
     }
     to
 }

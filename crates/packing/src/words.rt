@@ -7,7 +7,7 @@ ghost use lib.Seq.{sets};
 ghost use Rattle.sheet.specs.Limits.{layersMost};
 ghost use Rattle.sheet.specs.Lists.{at, tabulate};
 ghost use Rattle.sheet.specs.Sheet as S;
-ghost use Rattle.packing.specs.Words as W;
+ghost use Rattle.packing.specs.Workings.Words as W;
 use header::CELL_POINTS;
 use header::MOST_PLACES;
 use sheet::MOST_LAYERS;

@@ -1,14 +1,13 @@
 // The card of coefficients.
 ghost use mathlib.Core.Path.{_≡_};
 ghost use mathlib.Core.Bool.{true};
-ghost use Prim.Native.Nat.{_*_};
 ghost use lib.ListN.{length, replicate};
-ghost use Rattle.text.specs.Text as T;
-ghost use Rattle.layers.specs.Calls.{settled, full};
-ghost use Rattle.header.specs.Header as Hd;
+ghost use Rattle.text.specs.Workings as Wk;
+ghost use Rattle.layers.specs.Samples.{full};
+ghost use Rattle.layers.specs.Workings.Calls.{settled};
 ghost use Rattle.header.specs.Opening as O;
-ghost use Rattle.packing.specs.Words as W;
-ghost use Rattle.packing.specs.Calls as C;
+ghost use Rattle.packing.specs.Workings.Words as W;
+ghost use Rattle.packing.specs.Workings.Calls as C;
 use crate::MOST_WORDS;
 use crate::putting::put_body;
 use crate::words::OFFSET;
@@ -25,11 +24,9 @@ use sheet::Shape;
 // The text of a header and the planes of words behind it, at the front of the output; answers their length. They are measured first: where they do
 // not fit, nothing is put.
 fn put_words(words: &[u32], header: Header, output: &mut [u8]) -> usize
-    requires { ⌜ (O.right header ≡ true) × (length (now words) ≡ W.wordsMost) ⌝ }
-    requires { ⌜ length (W.flatDown (header .shape) (header .planes) (now words) Hd.placesMost) ≡ Hd.cellBytes * header .cells ⌝ }
-    ensures { λ r. ⌜ (r ≡ T.after (now (output .entry)) 0 (W.flatCard header (now (words .entry)))) × (now (output .exit) ≡ T.putting (now (output .entry)) 0 (W.flatCard header (now (words .entry)))) ⌝ }
+    requires { ⌜ (O.wellFormed header ≡ true) × (length (now words) ≡ W.wordsMost) ⌝ }
+    ensures { λ r. ⌜ (r ≡ Wk.after (now (output .entry)) 0 (W.flatCard header (now (words .entry)))) × (now (output .exit) ≡ Wk.putting (now (output .entry)) 0 (W.flatCard header (now (words .entry)))) ⌝ }
 {
-    let planes = header.planes;
     let text = header::header_text(header);
     let bytes = text.bytes;
     let length = text.length;
@@ -37,7 +34,7 @@ fn put_words(words: &[u32], header: Header, output: &mut [u8]) -> usize
         return 0;
     }
     text::put(output, 0, &bytes[..length]);
-    put_body(words, header.shape, planes, output, length)
+    put_body(words, header, output, length)
 }
 
 // The card of coefficients, by way of the words: the counts of the words tell whether 23 digits hold all of them.
@@ -50,7 +47,7 @@ fn put_card(
     output: &mut [u8],
 ) -> usize
     requires { ⌜ (settled shape step ≡ true) × (full shape (now coefficients) ≡ true) × (now words ≡ replicate W.wordsMost W.offset) ⌝ }
-    ensures { λ r. ⌜ (r ≡ T.after (now (output .entry)) 0 (C.cardFor shape curve step (now (coefficients .entry)))) × (now (output .exit) ≡ T.putting (now (output .entry)) 0 (C.cardFor shape curve step (now (coefficients .entry)))) ⌝ }
+    ensures { λ r. ⌜ (r ≡ Wk.after (now (output .entry)) 0 (C.cardFor shape curve step (now (coefficients .entry)))) × (now (output .exit) ≡ Wk.putting (now (output .entry)) 0 (C.cardFor shape curve step (now (coefficients .entry)))) ⌝ }
 {
     gather(coefficients, shape, words);
     let planes = counts(words, shape);
@@ -80,7 +77,7 @@ pub fn write_card(
     step: u64,
     output: &mut [u8],
 ) -> usize
-    ensures { λ r. ⌜ (r ≡ T.after (now (output .entry)) 0 (C.cardFor shape curve step (now (coefficients .entry)))) × (now (output .exit) ≡ T.putting (now (output .entry)) 0 (C.cardFor shape curve step (now (coefficients .entry)))) ⌝ }
+    ensures { λ r. ⌜ (r ≡ Wk.after (now (output .entry)) 0 (C.cardFor shape curve step (now (coefficients .entry)))) × (now (output .exit) ≡ Wk.putting (now (output .entry)) 0 (C.cardFor shape curve step (now (coefficients .entry)))) ⌝ }
 {
     if !sheet::accepted(shape) || MOST_STEP < step {
         return 0;

@@ -1,5 +1,5 @@
 -- The plan that planning finds is the best, and the only one: it is kept of all plans, starting from one that is allowed (all planes lose nothing, no planes take no cells), and of two different plans one is better.
-use mathlib.Core.Bool.{Bool, true}
+use mathlib.Core.Bool.{Bool, true, false}
 use mathlib.Core.List.{List}
 use mathlib.Core.Path.{_≡_}
 use Prim.Native.Nat.{ℕ, _≤_}
@@ -12,10 +12,16 @@ use Rattle.header.specs.Header.{planesOf}
 use Rattle.header.specs.Plan.{layersMost}
 use Rattle.header.proofs.Cells.{none-loaded, none-cells}
 use Rattle.figure.proofs.Figures.{figure-all}
-use Rattle.planner.specs.Planning.{PlanOf, plansOf, better, bestOf, Best, cellsIn, figureIn, withinLimit, withinCells, betterByLimit, betterByCells, bestByLimit, bestByCells}
+use Rattle.planner.specs.Planning.{PlanOf, plansOf, better, bestOf, cellsIn, figureIn, withinLimit, withinCells, betterByLimit, betterByCells, bestByLimit, bestByCells}
 use Rattle.planner.proofs.Orders.{better-strict, better-apart}
 use Rattle.planner.proofs.AllPlans.{plans-has, plans-only}
 use Rattle.planner.proofs.KeepsBest.{kept-has, kept-least}
+
+-- a plan that is allowed, and no allowed plan is better; exactly one plan is so (`by-limit-only`, `by-cells-only`)
+pub record Best (h : Header) (allowed : List ℕ → Bool) (better : List ℕ → List ℕ → Bool) (ns : List ℕ) : Type 0 where
+  pub plan : PlanOf h ns
+  pub meets : allowed ns ≡ true
+  pub least : (ms : List ℕ) → PlanOf h ms → allowed ms ≡ true → better ms ns ≡ false
 
 module _ (h : Header) (allowed : List ℕ → Bool) (first second : List ℕ → ℕ) where
   -- what is kept of all plans

@@ -9,10 +9,16 @@ use Rattle.header.specs.Header.{total}
 use Rattle.header.specs.Plan.{layersMost}
 use Rattle.header.proofs.Cells.{cells-places}
 use Rattle.header.proofs.Rightness.{Right}
-use Rattle.figure.specs.Figure.{figureOf, carryOf, chargeOf}
+use Rattle.figure.specs.Figure.{figureOf}
+use Rattle.figure.specs.Workings.{carryOf, chargeOf}
 use Rattle.figure.proofs.Places as P
 use Rattle.planner.specs.Planning.{counts, cellsIn}
-use Rattle.planner.specs.Table.{Layers, layersOf, cells, standing, none}
+use Rattle.planner.specs.Workings.Table.{Layers, layersOf, cells, none}
+
+-- what stands after the first k layers under a plan, without the step
+unfoldable pub standing : Layers → (ℕ → ℕ) → ℕ → ℕ
+standing L n zero = 0
+standing L n (suc k) = L .carry k (standing L n k) + L .charge k (n k)
 
 pub cells-total : (L : Layers) (n : ℕ → ℕ) (k : ℕ) → cells L n k ≡ total (λ j. n j * L .span j) k
 unfolding cells total

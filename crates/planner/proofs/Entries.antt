@@ -7,13 +7,13 @@ use native.Mathlib.Decide.{decLe, decLt}
 use native.Mathlib.Omega.{arith}
 use borrow.Author.Tests.{le-leb, lt-leb, ne-eqb}
 use Rattle.header.specs.declared.Header.{Header}
-use Rattle.header.specs.Header.{cellsMost}
+use Rattle.header.specs.Workings.{cellsMost}
 use Rattle.header.specs.Plan.{layersMost}
-use Rattle.header.specs.Opening.{right}
+use Rattle.header.specs.Opening.{wellFormed}
 use Rattle.header.proofs.Rightness.{right-yes, counts-few, layers-few}
 use Rattle.header.proofs.Total.{cells-most}
 use Rattle.header.proofs.Totals.{total-rises}
-use Rattle.planner.specs.Table.{Layers, layersOf, cells, reach, none, leastOf, choice, best}
+use Rattle.planner.specs.Workings.Table.{Layers, layersOf, cells, reach, none, leastOf, choice, best}
 use Rattle.planner.proofs.RisingCarry.{Rising, carry-up}
 use Rattle.planner.proofs.Bridge.{cells-total, cells-same}
 
@@ -133,7 +133,7 @@ reach-rises L j k l =
     omega (arith, cells-total L (L .planes) j, cells-total L (L .planes) k, total-rises (λ (i : ℕ). L .planes i * L .span i) j k l)
 
 -- ---- of a header
-pub reach-most : (h : Header) → right h ≡ true → (k : ℕ) → k ≤ layersMost → reach (layersOf h) k ≤ cellsMost
+pub reach-most : (h : Header) → wellFormed h ≡ true → (k : ℕ) → k ≤ layersMost → reach (layersOf h) k ≤ cellsMost
 reach-most h ok k l =
     let r = right-yes h ok in
     omega (

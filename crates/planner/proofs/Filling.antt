@@ -7,7 +7,7 @@ use native.Mathlib.Omega.{arith}
 use lib.ListN.{length, getD, set, replicate, length-set, length-replicate, getD-replicate}
 use lib.Seq.{getD-set-same, getD-set-other}
 use Rattle.header.specs.Plan.{layersMost}
-use Rattle.planner.specs.Table.{Layers, Rows, Tried, none, rowLength, tableLength, leastOf, best}
+use Rattle.planner.specs.Workings.Table.{Layers, Rows, Tried, none, rowLength, tableLength, leastOf, best}
 use Rattle.planner.proofs.Entries.{best-suc, best-first, best-empty}
 
 -- ---- row 0

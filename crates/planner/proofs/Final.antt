@@ -11,22 +11,28 @@ use lib.ListN.{length, List·getD-eq-default}
 use Rattle.header.specs.declared.Header.{Header}
 use Rattle.header.specs.Header.{planesOf}
 use Rattle.header.specs.Plan.{layersMost}
-use Rattle.header.specs.Opening.{right}
+use Rattle.header.specs.Opening.{wellFormed}
 use Rattle.header.proofs.Over.{none-over}
 use Rattle.header.proofs.Rightness.{Right, right-yes}
-use Rattle.figure.specs.Figure.{boundOf}
+use Rattle.figure.specs.Workings.{boundOf}
 use Rattle.figure.proofs.FigureCall.{bound-right}
 use Rattle.figure.proofs.Figures.{figure-all}
-use Rattle.planner.specs.Planning.{counts, PlanOf, Best, cellsIn, figureIn, withinLimit, withinCells, betterByLimit, betterByCells, bestByLimit, bestByCells}
-use Rattle.planner.specs.Table.{layersOf, cells, standing, reach, none, best, rowLength, FirstWithin, LeastWithin, Room, RowEnd, Traced, Found}
+use Rattle.planner.specs.Planning.{counts, PlanOf, cellsIn, figureIn, withinLimit, withinCells, betterByLimit, betterByCells, bestByLimit, bestByCells}
+use Rattle.planner.proofs.Best.{Best, by-limit-only, by-cells-only}
+use Rattle.planner.specs.Workings.Table.{layersOf, cells, reach, none, best, rowLength, FirstWithin, LeastWithin, Room, RowEnd, Traced}
+use Rattle.planner.proofs.Law.{NoWorse, lower, traced-plan, traced-cells, traced-standing, least-cells, least-standing}
 use Rattle.planner.proofs.RisingCarry.{header-rising}
-use Rattle.planner.proofs.Bridge.{cells-same, figure-same, below-none}
+use Rattle.planner.proofs.Bridge.{standing, cells-same, figure-same, below-none}
 use Rattle.planner.proofs.Entries.{no-cells, reach-all, reach-most}
 use Rattle.planner.proofs.Orders.{not-better}
-use Rattle.planner.proofs.Law.{NoWorse, lower, traced-plan, traced-cells, traced-standing, least-cells, least-standing}
-use Rattle.planner.proofs.Best.{by-limit-only, by-cells-only}
 
-module _ (h : Header) (ok : right h ≡ true) where
+-- the plan ns is the one asked for, and has so many cells and this figure
+pub record Found (h : Header) (asked ns : List ℕ) (size figure : ℕ) : Type 0 where
+  pub same : ns ≡ asked
+  pub size-is : size ≡ cellsIn h asked
+  pub figure-is : figure ≡ figureIn h asked
+
+module _ (h : Header) (ok : wellFormed h ≡ true) where
   abbrev entry : ℕ → ℕ
   entry = best (layersOf h) layersMost
 
@@ -36,8 +42,8 @@ module _ (h : Header) (ok : right h ≡ true) where
   abbrev left : List ℕ → ℕ
   left ns = standing (layersOf h) (counts ns) layersMost
 
-  is-right : Right h
-  is-right = right-yes h ok
+  is-well-formed : Right h
+  is-well-formed = right-yes h ok
 
   -- ---- some entry is reached
   -- all planes stand at 0
@@ -46,7 +52,7 @@ module _ (h : Header) (ok : right h ≡ true) where
       omega (
         arith,
         lower (layersOf h) (header-rising h) (planesOf h) layersMost (λ k _. le-refl (planesOf h k)),
-        figure-same is-right (planesOf h),
+        figure-same is-well-formed (planesOf h),
         figure-all h,
       )
 
@@ -65,40 +71,40 @@ module _ (h : Header) (ok : right h ≡ true) where
         f .least 0 zero-le,
         ap entry (no-cells (layersOf h) layersMost),
         lower (layersOf h) (header-rising h) (λ _. 0) layersMost (λ _ _. zero-le),
-        below-none is-right (λ _. 0),
+        below-none is-well-formed (λ _. 0),
       )
 
   -- ---- what the law says of the card's cells and figure
   module _ (ns ms : List ℕ) where
     same-taken : cellsIn h ms ≡ cellsIn h ns → taken ms ≡ taken ns
-    same-taken e = omega (arith, cells-same is-right ms, cells-same is-right ns)
+    same-taken e = omega (arith, cells-same is-well-formed ms, cells-same is-well-formed ns)
 
     same-left : figureIn h ms ≡ figureIn h ns → left ms ≡ left ns
-    same-left e = omega (arith, figure-same is-right (counts ms), figure-same is-right (counts ns))
+    same-left e = omega (arith, figure-same is-well-formed (counts ms), figure-same is-well-formed (counts ns))
 
     none-by-limit : NoWorse (λ n. cells (layersOf h) n layersMost) (λ n. standing (layersOf h) n layersMost) layersMost (counts ns) (counts ms)
         → betterByLimit h ms ns ≡ false
     none-by-limit w =
         not-better (cellsIn h) (figureIn h) ms ns
-        (omega (arith, w .one, cells-same is-right ms, cells-same is-right ns))
-        (λ e. omega (arith, w .two (same-taken e), figure-same is-right (counts ms), figure-same is-right (counts ns)))
+        (omega (arith, w .one, cells-same is-well-formed ms, cells-same is-well-formed ns))
+        (λ e. omega (arith, w .two (same-taken e), figure-same is-well-formed (counts ms), figure-same is-well-formed (counts ns)))
         (λ e d. w .tie (same-taken e) (same-left d))
 
     none-by-cells : NoWorse (λ n. standing (layersOf h) n layersMost) (λ n. cells (layersOf h) n layersMost) layersMost (counts ns) (counts ms)
         → betterByCells h ms ns ≡ false
     none-by-cells w =
         not-better (figureIn h) (cellsIn h) ms ns
-        (omega (arith, w .one, figure-same is-right (counts ms), figure-same is-right (counts ns)))
-        (λ e. omega (arith, w .two (same-left e), cells-same is-right ms, cells-same is-right ns))
+        (omega (arith, w .one, figure-same is-well-formed (counts ms), figure-same is-well-formed (counts ns)))
+        (λ e. omega (arith, w .two (same-left e), cells-same is-well-formed ms, cells-same is-well-formed ns))
         (λ e d. w .tie (same-left e) (same-taken d))
 
   -- ---- a plan that is read off
   module _ (size : ℕ) (ns : List ℕ) (traced : Traced (layersOf h) layersMost size (counts ns)) where
     size-own : size ≡ cellsIn h ns
-    size-own = omega (arith, traced-cells (layersOf h) (header-rising h) (counts ns) layersMost size traced, cells-same is-right ns)
+    size-own = omega (arith, traced-cells (layersOf h) (header-rising h) (counts ns) layersMost size traced, cells-same is-well-formed ns)
 
     figure-own : h .step + entry size ≡ figureIn h ns
-    figure-own = omega (arith, traced-standing (layersOf h) (header-rising h) (counts ns) layersMost size traced, figure-same is-right (counts ns))
+    figure-own = omega (arith, traced-standing (layersOf h) (header-rising h) (counts ns) layersMost size traced, figure-same is-well-formed (counts ns))
 
     module _ (long : length ns ≡ layersMost) where
       plan-of : PlanOf h ns
@@ -112,12 +118,12 @@ module _ (h : Header) (ok : right h ≡ true) where
           }
 
       -- and the figure that is told of it is its own
-      found-as : (asked : List ℕ) → ns ≡ asked → Found h asked ns size (boundOf h (record { planes = ns }))
+      found-as : (asked : List ℕ) → ns ≡ asked → Found h asked ns size (boundOf h (record { planes = ns }) .figure)
       found-as asked e =
           record {
             same = e;
             size-is = size-own ∙ ap (cellsIn h) e;
-            figure-is = bound-right h ok (record { planes = ns }) (none-over (planesOf h) (counts ns) (λ k _. plan-of .within k)) ∙ ap (figureIn h) e;
+            figure-is = bound-right h (record { planes = ns }) ok (none-over (planesOf h) (counts ns) (λ k _. plan-of .within k)) ∙ ap (figureIn h) e;
           }
 
       limit-best : (limit room : ℕ) → Room (h .step) limit room → FirstWithin entry room size → Best h (withinLimit h limit) (betterByLimit h) ns
@@ -128,7 +134,7 @@ module _ (h : Header) (ok : right h ≡ true) where
             least = λ ms p a.
                 none-by-limit ns ms
                 (least-cells (layersOf h) (header-rising h) layersMost size (counts ns) traced room (f .above) (counts ms) (λ k _. p .within k)
-                (m .most (left ms) (omega (arith, figure-same is-right (counts ms), leb-true (figureIn h ms) limit a)) (below-none is-right (counts ms))));
+                (m .most (left ms) (omega (arith, figure-same is-well-formed (counts ms), leb-true (figureIn h ms) limit a)) (below-none is-well-formed (counts ms))));
           }
 
       cells-best : (most top : ℕ) → RowEnd most top → LeastWithin entry top size → Best h (withinCells h most) (betterByCells h) ns
@@ -139,7 +145,7 @@ module _ (h : Header) (ok : right h ≡ true) where
             least = λ ms p a.
                 none-by-cells ns ms
                 (least-standing (layersOf h) (header-rising h) layersMost size (counts ns) traced top (f .before) (f .least) (counts ms) (λ k _. p .within k)
-                (m .last (taken ms) (omega (arith, cells-same is-right ms, leb-true (cellsIn h ms) most a)) (row-has ms p)));
+                (m .last (taken ms) (omega (arith, cells-same is-well-formed ms, leb-true (cellsIn h ms) most a)) (row-has ms p)));
           }
         where
           row-has : (ms : List ℕ) → PlanOf h ms → taken ms < rowLength
@@ -149,12 +155,12 @@ module _ (h : Header) (ok : right h ≡ true) where
   module _ (long : length (h .planes) ≡ layersMost) where
     pub by-limit : (limit room size : ℕ) (ns : List ℕ) → h .step ≤ limit → Room (h .step) limit room → FirstWithin (best (layersOf h) layersMost) room size
         → Traced (layersOf h) layersMost size (counts ns) → length ns ≡ layersMost
-        → Found h (bestByLimit h limit) ns size (boundOf h (record { planes = ns }))
+        → Found h (bestByLimit h limit) ns size (boundOf h (record { planes = ns }) .figure)
     by-limit limit room size ns l m f t ln =
         found-as size ns t ln (bestByLimit h limit) (by-limit-only h long limit l ns (limit-best size ns t ln limit room m f))
 
     pub by-cells : (most top size : ℕ) (ns : List ℕ) → RowEnd most top → LeastWithin (best (layersOf h) layersMost) top size
         → Traced (layersOf h) layersMost size (counts ns) → length ns ≡ layersMost
-        → Found h (bestByCells h most) ns size (boundOf h (record { planes = ns }))
+        → Found h (bestByCells h most) ns size (boundOf h (record { planes = ns }) .figure)
     by-cells most top size ns m f t ln =
         found-as size ns t ln (bestByCells h most) (by-cells-only h most ns (cells-best size ns t ln most top m f))

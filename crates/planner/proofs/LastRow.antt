@@ -8,7 +8,7 @@ use native.Mathlib.Omega.{arith}
 use borrow.Author.Count.{below-more}
 use lib.ListN.{getD}
 use Rattle.header.specs.Plan.{layersMost}
-use Rattle.planner.specs.Table.{Layers, Rows, FirstWithin, LeastWithin, rowLength, best}
+use Rattle.planner.specs.Workings.Table.{Layers, Rows, FirstWithin, LeastWithin, rowLength, best}
 
 -- ---- the first within a limit
 module _ (f : ℕ → ℕ) (limit c : ℕ) (above : (b : ℕ) → b < c → limit < f b) where

@@ -7,8 +7,9 @@ use native.Mathlib.Nat.{le-refl, not-suc-le-zero}
 use native.Mathlib.Decide.{decLt}
 use native.Mathlib.Omega.{arith}
 use Rattle.header.proofs.Bools.{not-yes}
-use Rattle.planner.specs.Planning.{prefers, before}
-use Rattle.planner.specs.Table.{Layers, cells, standing, choice, best, Traced}
+use Rattle.planner.specs.Planning.{prefers, winsTie}
+use Rattle.planner.specs.Workings.Table.{Layers, cells, choice, best, Traced}
+use Rattle.planner.proofs.Bridge.{standing}
 use Rattle.planner.proofs.RisingCarry.{Rising, carry-mono, carry-one}
 use Rattle.planner.proofs.Entries.{choice-fits, best-first, best-le}
 use Rattle.planner.proofs.Orders.{by-cases}
@@ -21,7 +22,7 @@ IsPlan L k n = (j : ℕ) → j < k → n j ≤ L .planes j
 pub record NoWorse (first second : (ℕ → ℕ) → ℕ) (k : ℕ) (n m : ℕ → ℕ) : Type 0 where
   pub one : first n ≤ first m
   pub two : first m ≡ first n → second n ≤ second m
-  pub tie : first m ≡ first n → second m ≡ second n → before k m n ≡ false
+  pub tie : first m ≡ first n → second m ≡ second n → winsTie k m n ≡ false
 
 module _ (L : Layers) (rising : Rising L) where
   -- what a plan's own count of layer k gives, where the layers before it stand at their entry
@@ -67,11 +68,11 @@ module _ (L : Layers) (rising : Rising L) where
       ∙ t .0 .gives
 
   -- of the plans in c cells that stand at the entry none goes before it
-  traced-first : (m n : ℕ → ℕ) (k c : ℕ) → Traced L k c n → IsPlan L k m → cells L m k ≡ c → standing L m k ≡ best L k c → before k m n ≡ true → ⊥
-  unfolding Traced before
+  traced-first : (m n : ℕ → ℕ) (k c : ℕ) → Traced L k c n → IsPlan L k m → cells L m k ≡ c → standing L m k ≡ best L k c → winsTie k m n ≡ true → ⊥
+  unfolding Traced winsTie
   traced-first m n zero c t p ec es b = true≢false (sym b)
   traced-first m n (suc k) c t p ec es b =
-      by-cases prefers (λ (x : ℕ → ℕ). x k) (before k) m n b
+      by-cases prefers (λ (x : ℕ → ℕ). x k) (winsTie k) m n b
       (λ l. t .0 .first (m k) (p k (le-refl (suc k))) l gives)
       (λ e r.
       traced-first m n k (c - n k * L .span k) (t .1) below (rest e)
@@ -103,9 +104,9 @@ module _ (L : Layers) (rising : Rising L) where
       rest e = unfold cells in (omega (arith, ec, ap (λ (x : ℕ). x * L .span k) e))
 
   module _ (k c : ℕ) (n : ℕ → ℕ) (t : Traced L k c n) where
-    tied : (m : ℕ → ℕ) → IsPlan L k m → cells L m k ≡ cells L n k → standing L m k ≡ standing L n k → before k m n ≡ false
+    tied : (m : ℕ → ℕ) → IsPlan L k m → cells L m k ≡ cells L n k → standing L m k ≡ standing L n k → winsTie k m n ≡ false
     tied m p ec es =
-        not-yes (before k m n)
+        not-yes (winsTie k m n)
         (traced-first m n k c t p (ec ∙ traced-cells n k c t) (es ∙ traced-standing n k c t))
 
     -- from the first entry within a limit on what stands: fewest cells, then least standing

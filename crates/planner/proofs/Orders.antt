@@ -12,7 +12,7 @@ use lib.ListN.{length}
 use lib.Seq.{ext-getD}
 use Rattle.header.specs.Plan.{layersMost}
 use Rattle.header.proofs.Bools.{or-left, or-right, or-cases, and-both, and-left, and-right, not-yes}
-use Rattle.planner.specs.Planning.{counts, prefers, before, better}
+use Rattle.planner.specs.Planning.{counts, prefers, winsTie, better}
 
 -- ---- strict orders
 module _ {A : Type 0} where
@@ -93,16 +93,16 @@ pub prefers-apart : Apart prefers
 prefers-apart a b p q = omega (arith, ltb-false)
 
 -- ---- the tie rule
-pub before-strict : (k : ℕ) → Strict (before k)
-unfolding before
+pub before-strict : (k : ℕ) → Strict (winsTie k)
+unfolding winsTie
 before-strict zero = record { self = λ _. refl; trans = λ _ _ _ p _. p }
-before-strict (suc k) = then-strict prefers (λ (m : ℕ → ℕ). m k) (before k) prefers-strict (before-strict k)
+before-strict (suc k) = then-strict prefers (λ (m : ℕ → ℕ). m k) (winsTie k) prefers-strict (before-strict k)
 
-pub before-apart : (k : ℕ) (m n : ℕ → ℕ) → before k m n ≡ false → before k n m ≡ false → (j : ℕ) → j < k → m j ≡ n j
-unfolding before
+pub before-apart : (k : ℕ) (m n : ℕ → ℕ) → winsTie k m n ≡ false → winsTie k n m ≡ false → (j : ℕ) → j < k → m j ≡ n j
+unfolding winsTie
 before-apart zero m n p q j l = absurd (not-suc-le-zero l)
 before-apart (suc k) m n p q j l =
-    let r = then-apart prefers (λ (x : ℕ → ℕ). x k) (before k) prefers-apart m n p q in
+    let r = then-apart prefers (λ (x : ℕ → ℕ). x k) (winsTie k) prefers-apart m n p q in
     elim (decLt j k) [
       | yes i ↦ before-apart k m n (r .1) (r .2) j i
       | no i ↦ let e : k ≡ j = omega arith in subst (λ (x : ℕ). m x ≡ n x) e (r .0)
@@ -111,7 +111,7 @@ before-apart (suc k) m n p q j l =
 -- ---- two measures and the tie rule
 module _ (first second : List ℕ → ℕ) where
   abbrev tie : List ℕ → List ℕ → Bool
-  tie ms ns = before layersMost (counts ms) (counts ns)
+  tie ms ns = winsTie layersMost (counts ms) (counts ns)
 
   pub better-strict : Strict (better first second)
   unfolding better
@@ -136,7 +136,7 @@ module _ (first second : List ℕ → ℕ) where
 
   -- one that is no less by the first measure, on a tie no less by the second, and on a tie there not before, is not better
   pub not-better : (ms ns : List ℕ) → first ns ≤ first ms → (first ms ≡ first ns → second ns ≤ second ms)
-      → (first ms ≡ first ns → second ms ≡ second ns → before layersMost (counts ms) (counts ns) ≡ false)
+      → (first ms ≡ first ns → second ms ≡ second ns → winsTie layersMost (counts ms) (counts ns) ≡ false)
       → better first second ms ns ≡ false
   unfolding better
   not-better ms ns f s t =

@@ -10,10 +10,11 @@ use borrow.Author.Count.{below-none, below-more}
 use lib.ListN.{length, getD, set, length-set}
 use lib.Seq.{getD-set-same, getD-set-other}
 use Rattle.header.specs.declared.Header.{Header}
-use Rattle.header.specs.Header.{cellsMost, planesOf, cellsAt}
+use Rattle.header.specs.Header.{planesOf}
+use Rattle.header.specs.Workings.{cellsMost, cellsAt}
 use Rattle.header.specs.Plan.{layersMost}
-use Rattle.header.specs.Opening.{right}
-use Rattle.planner.specs.Table.{Layers, layersOf, Tried, cells, reach, rowLength, leastOf, choice, best}
+use Rattle.header.specs.Opening.{wellFormed}
+use Rattle.planner.specs.Workings.Table.{Layers, layersOf, Tried, cells, reach, rowLength, leastOf, choice, best}
 use Rattle.planner.proofs.RisingCarry.{Rising, carry-up}
 use Rattle.planner.proofs.Entries.{least-suc, least-most, choice-fits, choice-over, best-none, reach-most}
 
@@ -114,7 +115,7 @@ module _ (L : Layers) (rising : Rising L) (k n : ℕ) (f : ℕ → ℕ) (is : (b
         }
 
 -- ---- of a header: these planes and all of the layers before have no more cells than a row has entries
-pub used-fits : (h : Header) → right h ≡ true → (k n : ℕ) → k < layersMost → n ≤ planesOf h k → n * cellsAt (h .shape) k + reach (layersOf h) k ≤ cellsMost
+pub used-fits : (h : Header) → wellFormed h ≡ true → (k n : ℕ) → k < layersMost → n ≤ planesOf h k → n * cellsAt (h .shape) k + reach (layersOf h) k ≤ cellsMost
 used-fits h ok k n l few =
     let all : reach (layersOf h) k + planesOf h k * cellsAt (h .shape) k ≤ cellsMost = unfold cells in (reach-most h ok (suc k) l) in
     omega (arith, mul-le-mul-right (cellsAt (h .shape) k) few)

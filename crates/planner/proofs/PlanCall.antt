@@ -10,32 +10,32 @@ use Rattle.header.specs.Refusals.{refusal, detailsOf}
 use Rattle.header.specs.Opening.{opening}
 use Rattle.header.specs.Opening as O
 use Rattle.planner.specs.declared.Planned.{Planned}
-use Rattle.planner.specs.Planning.{no, found, told, cellsIn, figureIn, byLimit, byCells, bestByLimit, bestByCells}
-use Rattle.planner.specs.Table.{Found}
+use Rattle.planner.specs.Planning.{notPlanned, found, asPlanning, cellsIn, figureIn, byLimit, byCells, bestByLimit, bestByCells}
+use Rattle.planner.proofs.Final.{Found}
 
 -- ---- a plan that was found, with its cells and its figure
 pub found-answer :
     (h : Header) (asked : List ℕ) (r : Planned) (size figure : ℕ)
     → (detailsOf (r .refusal) ≡ refusal 0 0 0) × (r .cells ≡ size) × (r .figure ≡ figure) → Found h asked (r .plan .planes) size figure
-    → told r ≡ found h asked
+    → asPlanning r ≡ found h asked
 found-answer h asked r size figure e f =
     let own-cells : r .cells ≡ cellsIn h asked = e .1 ∙ f .size-is in
     let own-figure : r .figure ≡ figureIn h asked = e .2 ∙ f .figure-is in
     λ i. record { refused = e .0 i; plan = record { planes = f .same i }; cells = own-cells i; figure = own-figure i }
 
 -- ---- what opening answers
-module _ (bs : List ℕ) (o : Opened) (e : O.told o ≡ opening bs) where
+module _ (bs : List ℕ) (o : Opened) (e : O.asOpening o ≡ opening bs) where
   module _ (n : detailsOf (o .refusal) .number ≡ 0 → ⊥) where
-    pub limit-refused : (limit : ℕ) → no (detailsOf (o .refusal)) ≡ byLimit bs limit
+    pub limit-refused : (limit : ℕ) → notPlanned (detailsOf (o .refusal)) ≡ byLimit bs limit
     unfolding byLimit
     limit-refused limit = rw (← e, ne-eqb (detailsOf (o .refusal) .number) 0 n)
 
-    pub cells-refused : (most : ℕ) → no (detailsOf (o .refusal)) ≡ byCells bs most
+    pub cells-refused : (most : ℕ) → notPlanned (detailsOf (o .refusal)) ≡ byCells bs most
     unfolding byCells
     cells-refused most = rw (← e, ne-eqb (detailsOf (o .refusal) .number) 0 n)
 
   module _ (yes : o .refusal ≡ F.Accepted) where
-    pub limit-low : (limit : ℕ) → limit < o .header .step → no (refusal 10 0 0) ≡ byLimit bs limit
+    pub limit-low : (limit : ℕ) → limit < o .header .step → notPlanned (refusal 10 0 0) ≡ byLimit bs limit
     unfolding byLimit
     limit-low limit l = rw (← e, yes, lt-ltb limit (o .header .step) l)
 

@@ -6,7 +6,7 @@ use native.Mathlib.Decide.{decLt}
 use native.Mathlib.Omega.{arith}
 use Rattle.header.specs.declared.Header.{Header}
 use Rattle.figure.proofs.LayerRules.{carry-rising}
-use Rattle.planner.specs.Table.{Layers, layersOf}
+use Rattle.planner.specs.Workings.Table.{Layers, layersOf}
 
 abbrev pub Rising : Layers → Type 0
 Rising L = (k a b : ℕ) → a < b → L .carry k a < L .carry k b

@@ -10,7 +10,7 @@ use lib.ListN.{length, getD, set, length-set}
 use lib.Seq.{getD-set-same, getD-set-other}
 use Rattle.header.specs.Plan.{layersMost}
 use Rattle.planner.specs.Planning.{counts}
-use Rattle.planner.specs.Table.{Layers, Preferred, Traced, none, choice, best}
+use Rattle.planner.specs.Workings.Table.{Layers, Preferred, Traced, none, choice, best}
 use Rattle.planner.proofs.RisingCarry.{Rising}
 use Rattle.planner.proofs.Entries.{least-at, choice-fits, choice-within, choice-down, best-suc, best-start}
 

@@ -1,5 +1,5 @@
--- The planner (document 01): which plan of a card is the best one, said by looking at every plan of it. How it is found is the code's affair.
-use mathlib.Core.Bool.{Bool, true, false, cond, _&&_, _||_}
+-- The planner (docs/CARD.md, "The planner"): which plan of a card is the best one, said by looking at every plan of it. How it is found is the code's affair.
+use mathlib.Core.Bool.{Bool, false, cond, _&&_, _||_}
 use mathlib.Core.List.{List, [], _∷_, _++_}
 use mathlib.Core.Path.{_≡_}
 use Prim.Native.Nat.{ℕ, zero, suc, _≤_}
@@ -20,12 +20,12 @@ use Rattle.planner.specs.declared.Planned.{Planned}
 abbrev pub counts : List ℕ → ℕ → ℕ
 counts ns k = getD ns k 0
 
--- "A plan of a card loads at most P_k planes of layer k"; past the last layer P_k is 0
+-- a plan of a card loads at most P_k planes of layer k; past the last layer P_k is 0
 pub record PlanOf (h : Header) (ns : List ℕ) : Type 0 where
   pub long : length ns ≡ layersMost
   pub within : (k : ℕ) → counts ns k ≤ planesOf h k
 
--- all of them: each list with 0, 1, .., n behind it, and so for every layer in turn
+-- all of them, and nothing else (`planner`, proofs/AllPlans, `plans-has`, `plans-only`): each list with 0, 1, .., n behind it, and so for every layer in turn
 unfoldable pub withUpTo : List ℕ → ℕ → List (List ℕ)
 withUpTo ns zero = (ns ++ zero ∷ []) ∷ []
 withUpTo ns (suc n) = (ns ++ suc n ∷ []) ∷ withUpTo ns n
@@ -42,36 +42,36 @@ unfoldable pub plansOf : Header → List (List ℕ)
 plansOf h = listsUpTo (planesOf h) layersMost
 
 -- ---- which of two plans is better
--- "its cells are those of all the planes it loads"
+-- its cells are those of all the planes that it loads
 abbrev pub cellsIn : Header → List ℕ → ℕ
 cellsIn h ns = cellsOf (h .shape) ns
 
 abbrev pub figureIn : Header → List ℕ → ℕ
 figureIn h ns = figureOf h (counts ns)
 
--- "Ties: .. from the last layer backwards, fewer planes": of two counts of one layer's planes the preferred one, and so of the first k layers
+-- the last tie: from the last layer backwards, fewer planes. Of two counts of one layer's planes the preferred one, and so of the first k layers
 abbrev pub prefers : ℕ → ℕ → Bool
 prefers a b = ltb a b
 
-unfoldable pub before : ℕ → (ℕ → ℕ) → (ℕ → ℕ) → Bool
-before zero m n = false
-before (suc k) m n = prefers (m k) (n k) || (eqb (m k) (n k) && before k m n)
+unfoldable pub winsTie : ℕ → (ℕ → ℕ) → (ℕ → ℕ) → Bool
+winsTie zero m n = false
+winsTie (suc k) m n = prefers (m k) (n k) || (eqb (m k) (n k) && winsTie k m n)
 
 -- less by the first measure, then by the second, then by the tie rule
 unfoldable pub better : (List ℕ → ℕ) → (List ℕ → ℕ) → List ℕ → List ℕ → Bool
 better first second ms ns =
     ltb (first ms) (first ns)
     || (eqb (first ms) (first ns)
-    && (ltb (second ms) (second ns) || (eqb (second ms) (second ns) && before layersMost (counts ms) (counts ns))))
+    && (ltb (second ms) (second ns) || (eqb (second ms) (second ns) && winsTie layersMost (counts ms) (counts ns))))
 
--- "By limit E: fewest cells with figure at most E"; on a tie the smaller figure
+-- by limit: the fewest cells with a figure of at most E, then the smaller figure
 abbrev pub withinLimit : Header → ℕ → List ℕ → Bool
 withinLimit h limit ns = leb (figureIn h ns) limit
 
 abbrev pub betterByLimit : Header → List ℕ → List ℕ → Bool
 betterByLimit h = better (cellsIn h) (figureIn h)
 
--- "By cells: smallest figure in at most that many cells, then fewest cells"
+-- by cells: the smallest figure in at most so many cells, then the fewest cells
 abbrev pub withinCells : Header → ℕ → List ℕ → Bool
 withinCells h most ns = leb (cellsIn h ns) most
 
@@ -79,7 +79,7 @@ abbrev pub betterByCells : Header → List ℕ → List ℕ → Bool
 betterByCells h = better (figureIn h) (cellsIn h)
 
 -- ---- the best plan
--- the best of some plans that are allowed, and of one that is
+-- the best of ns, which is allowed, and of those of a list that are; of all plans exactly one is the best (proofs/Best, `by-limit-only`, `by-cells-only`)
 unfoldable pub bestOf : (List ℕ → Bool) → (List ℕ → List ℕ → Bool) → List ℕ → List (List ℕ) → List ℕ
 bestOf allowed better ns [] = ns
 bestOf allowed better ns (ms ∷ mss) = bestOf allowed better (cond (allowed ms && better ms ns) ms ns) mss
@@ -92,12 +92,6 @@ bestByLimit h limit = bestOf (withinLimit h limit) (betterByLimit h) (h .planes)
 unfoldable pub bestByCells : Header → ℕ → List ℕ
 bestByCells h most = bestOf (withinCells h most) (betterByCells h) (noPlan .planes) (plansOf h)
 
--- the same as a record: the plan is allowed, and no allowed plan is better. Exactly one plan is so (proofs/Best)
-pub record Best (h : Header) (allowed : List ℕ → Bool) (better : List ℕ → List ℕ → Bool) (ns : List ℕ) : Type 0 where
-  pub plan : PlanOf h ns
-  pub meets : allowed ns ≡ true
-  pub least : (ms : List ℕ) → PlanOf h ms → allowed ms ≡ true → better ms ns ≡ false
-
 -- ---- the calls
 -- what planning answers; beside a refusal the plan loads nothing, and cells and figure are 0
 pub record Planning : Type 0 where
@@ -106,25 +100,25 @@ pub record Planning : Type 0 where
   pub cells : ℕ
   pub figure : ℕ
 
-abbrev pub no : Details → Planning
-no d = record { refused = d; plan = noPlan; cells = 0; figure = 0 }
+abbrev pub notPlanned : Details → Planning
+notPlanned d = record { refused = d; plan = noPlan; cells = 0; figure = 0 }
 
--- "The cells and figure reported are the plan's own."
+-- the cells and the figure answered are the plan's own
 abbrev pub found : Header → List ℕ → Planning
 found h ns = record { refused = refusal 0 0 0; plan = record { planes = ns }; cells = cellsIn h ns; figure = figureIn h ns }
 
-abbrev pub afterOpening : Opening → (Header → Planning) → Planning
-afterOpening o go = cond (eqb (o .refused .number) 0) (go (o .header)) (no (o .refused))
+abbrev pub plannedFrom : Opening → (Header → Planning) → Planning
+plannedFrom o go = cond (eqb (o .refused .number) 0) (go (o .header)) (notPlanned (o .refused))
 
--- "Planning by limit: 10, E below e, that is, no plan meets it."
+-- by limit: refusal 10 where E is below e, for then no plan meets it
 unfoldable pub byLimit : List ℕ → ℕ → Planning
 byLimit bs limit =
-    afterOpening (opening bs) (λ h. cond (ltb limit (h .step)) (no (refusal 10 0 0)) (found h (bestByLimit h limit)))
+    plannedFrom (opening bs) (λ h. cond (ltb limit (h .step)) (notPlanned (refusal 10 0 0)) (found h (bestByLimit h limit)))
 
--- "Planning by cells: none of its own."
+-- by cells: no refusal of its own
 unfoldable pub byCells : List ℕ → ℕ → Planning
-byCells bs most = afterOpening (opening bs) (λ h. found h (bestByCells h most))
+byCells bs most = plannedFrom (opening bs) (λ h. found h (bestByCells h most))
 
 -- the code's answer in these terms
-abbrev pub told : Planned → Planning
-told p = record { refused = detailsOf (p .refusal); plan = p .plan; cells = p .cells; figure = p .figure }
+abbrev pub asPlanning : Planned → Planning
+asPlanning p = record { refused = detailsOf (p .refusal); plan = p .plan; cells = p .cells; figure = p .figure }

@@ -21,7 +21,7 @@ pub struct Planned {
 }
 
 fn refused(refusal: Refusal) -> Planned
-    ensures { λ r. ⌜ N.told r ≡ N.no (R.detailsOf refusal) ⌝ }
+    ensures { λ r. ⌜ N.asPlanning r ≡ N.notPlanned (R.detailsOf refusal) ⌝ }
 {
     Planned {
         refusal,
@@ -35,7 +35,7 @@ fn refused(refusal: Refusal) -> Planned
 
 // The plan with the fewest cells whose figure is at most the limit.
 pub fn plan_by_limit(bytes: &[u8], limit: u64) -> Planned
-    ensures { λ r. ⌜ N.told r ≡ N.byLimit (now (bytes .entry)) limit ⌝ }
+    ensures { λ r. ⌜ N.asPlanning r ≡ N.byLimit (now (bytes .entry)) limit ⌝ }
 {
     let opened = header::open(bytes);
     let refusal = opened.refusal;
@@ -53,7 +53,7 @@ pub fn plan_by_limit(bytes: &[u8], limit: u64) -> Planned
 
 // The plan with the smallest figure in at most so many cells.
 pub fn plan_by_cells(bytes: &[u8], cells: u64) -> Planned
-    ensures { λ r. ⌜ N.told r ≡ N.byCells (now (bytes .entry)) cells ⌝ }
+    ensures { λ r. ⌜ N.asPlanning r ≡ N.byCells (now (bytes .entry)) cells ⌝ }
 {
     let opened = header::open(bytes);
     let refusal = opened.refusal;

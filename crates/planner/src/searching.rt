@@ -5,11 +5,12 @@ ghost use Prim.Native.Nat.{suc, _+_, _*_, _<_, _≤_};
 ghost use lib.ListN.{length, getD};
 ghost use Rattle.header.specs.Refusals as R;
 ghost use Rattle.header.specs.Header as Hd;
+ghost use Rattle.header.specs.Workings as W;
 ghost use Rattle.header.specs.Plan.{layersMost};
 ghost use Rattle.header.specs.Opening as O;
-ghost use Rattle.figure.specs.Figure as F;
+ghost use Rattle.figure.specs.Workings as Wk;
 ghost use Rattle.planner.specs.Planning as N;
-ghost use Rattle.planner.specs.Table as T;
+ghost use Rattle.planner.specs.Workings.Table as T;
 use crate::Planned;
 use crate::table::NONE;
 use crate::table::ROW;
@@ -73,7 +74,7 @@ fn least_within(t: &[u64], top: usize) -> usize
 
 // Where the first k + 1 layers stand in c cells when layer k takes n planes and the layers before it stand as low as they can in the rest.
 fn choice_at(t: &[u64], header: Header, k: usize, rule: Rule, span: u64, c: usize, n: u64) -> u64
-    requires { ⌜ (O.right header ≡ true) × (k < layersMost) × (rule ≡ F.ruleOf header k) × (span ≡ Hd.cellsAt (header .shape) k) × (c < T.rowLength) × (n ≤ Hd.planesOf header k) ⌝ }
+    requires { ⌜ (O.wellFormed header ≡ true) × (k < layersMost) × (rule ≡ Wk.ruleOf header k) × (span ≡ W.cellsAt (header .shape) k) × (c < T.rowLength) × (n ≤ Hd.planesOf header k) ⌝ }
     requires { ⌜ T.Rows (T.layersOf header) (now t) layersMost ⌝ }
     ensures { λ r. ⌜ r ≡ T.choice (T.layersOf header) k (T.best (T.layersOf header) k) c n ⌝ }
 {
@@ -86,7 +87,7 @@ fn choice_at(t: &[u64], header: Header, k: usize, rule: Rule, span: u64, c: usiz
 
 // The preferred count of layer k's planes among those that give the least that the first k + 1 layers can stand at in c cells.
 fn preferred(t: &[u64], header: Header, k: usize, span: u64, c: usize) -> u64
-    requires { ⌜ (O.right header ≡ true) × (k < layersMost) × (span ≡ Hd.cellsAt (header .shape) k) × (c < T.rowLength) ⌝ }
+    requires { ⌜ (O.wellFormed header ≡ true) × (k < layersMost) × (span ≡ W.cellsAt (header .shape) k) × (c < T.rowLength) ⌝ }
     requires { ⌜ T.Rows (T.layersOf header) (now t) layersMost ⌝ }
     requires { ⌜ T.best (T.layersOf header) (suc k) c < T.none ⌝ }
     ensures { λ r. ⌜ T.Preferred (T.layersOf header) k c r ⌝ }
@@ -105,7 +106,7 @@ fn preferred(t: &[u64], header: Header, k: usize, span: u64, c: usize) -> u64
 
 // The plan that the table gives in exactly `size` cells, from the last layer back.
 fn trace(t: &[u64], header: Header, size: usize) -> [u64; MOST_LAYERS]
-    requires { ⌜ (O.right header ≡ true) × (size < T.rowLength) ⌝ }
+    requires { ⌜ (O.wellFormed header ≡ true) × (size < T.rowLength) ⌝ }
     requires { ⌜ T.Rows (T.layersOf header) (now t) layersMost ⌝ }
     requires { ⌜ T.best (T.layersOf header) layersMost size < T.none ⌝ }
     ensures { λ r. ⌜ T.Traced (T.layersOf header) layersMost size (N.counts r) ⌝ }
@@ -125,11 +126,11 @@ fn trace(t: &[u64], header: Header, size: usize) -> [u64; MOST_LAYERS]
 
 // That plan, with its cells and its figure.
 fn plan_in(t: &[u64], header: Header, size: usize) -> Planned
-    requires { ⌜ (O.right header ≡ true) × (size < T.rowLength) ⌝ }
+    requires { ⌜ (O.wellFormed header ≡ true) × (size < T.rowLength) ⌝ }
     requires { ⌜ T.Rows (T.layersOf header) (now t) layersMost ⌝ }
     requires { ⌜ T.best (T.layersOf header) layersMost size < T.none ⌝ }
     ensures { λ r. ⌜ T.Traced (T.layersOf header) layersMost size (N.counts (r .plan .planes)) ⌝ }
-    ensures { λ r. ⌜ (R.detailsOf (r .refusal) ≡ R.refusal 0 0 0) × (r .cells ≡ size) × (r .figure ≡ F.boundOf header (r .plan)) ⌝ }
+    ensures { λ r. ⌜ (R.detailsOf (r .refusal) ≡ R.refusal 0 0 0) × (r .cells ≡ size) × (r .figure ≡ Wk.boundOf header (r .plan) .figure) ⌝ }
 {
     let planes = trace(t, header, size);
     let plan = Plan { planes };
@@ -137,14 +138,14 @@ fn plan_in(t: &[u64], header: Header, size: usize) -> Planned
         refusal: Refusal::Accepted,
         plan,
         cells: size as u64,
-        figure: figure::error_bound(header, plan),
+        figure: figure::error_bound(header, plan).figure,
     }
 }
 
 // The best plan by a limit that is not below the step.
 pub(crate) fn search_by_limit(header: Header, limit: u64) -> Planned
-    requires { ⌜ (O.right header ≡ true) × (header .step ≤ limit) ⌝ }
-    ensures { λ r. ⌜ N.told r ≡ N.found header (N.bestByLimit header limit) ⌝ }
+    requires { ⌜ (O.wellFormed header ≡ true) × (header .step ≤ limit) ⌝ }
+    ensures { λ r. ⌜ N.asPlanning r ≡ N.found header (N.bestByLimit header limit) ⌝ }
 {
     let mut t = [NONE; TABLE];
     let mut held = [NONE; ROW];
@@ -156,8 +157,8 @@ pub(crate) fn search_by_limit(header: Header, limit: u64) -> Planned
 
 // The best plan in at most so many cells.
 pub(crate) fn search_by_cells(header: Header, most: u64) -> Planned
-    requires { ⌜ O.right header ≡ true ⌝ }
-    ensures { λ r. ⌜ N.told r ≡ N.found header (N.bestByCells header most) ⌝ }
+    requires { ⌜ O.wellFormed header ≡ true ⌝ }
+    ensures { λ r. ⌜ N.asPlanning r ≡ N.found header (N.bestByCells header most) ⌝ }
 {
     let mut t = [NONE; TABLE];
     let mut held = [NONE; ROW];

@@ -4,9 +4,10 @@ ghost use mathlib.Core.Bool.{true};
 ghost use Prim.Native.Nat.{suc, _<_, _≤_, min};
 ghost use lib.ListN.{length, replicate};
 ghost use Rattle.header.specs.Header as Hd;
+ghost use Rattle.header.specs.Workings as W;
 ghost use Rattle.header.specs.Plan.{layersMost};
 ghost use Rattle.header.specs.Opening as O;
-ghost use Rattle.planner.specs.Table as T;
+ghost use Rattle.planner.specs.Workings.Table as T;
 use header::Header;
 use header::MOST_CELLS;
 use header::MOST_LAYERS;
@@ -39,7 +40,7 @@ fn carry_row(t: &[u64], held: &mut [u64], header: Header, k: usize, reach: usize
 
 // Row k + 1 with n planes of layer k tried: each number of cells that the layers before it can reach, and the cells of these planes more.
 fn try_count(t: &mut [u64], held: &[u64], header: Header, k: usize, span: u64, n: u64, reach: usize)
-    requires { ⌜ (O.right header ≡ true) × (k < layersMost) × (n ≤ Hd.planesOf header k) × (span ≡ Hd.cellsAt (header .shape) k) × (reach ≡ T.reach (T.layersOf header) k) ⌝ }
+    requires { ⌜ (O.wellFormed header ≡ true) × (k < layersMost) × (n ≤ Hd.planesOf header k) × (span ≡ W.cellsAt (header .shape) k) × (reach ≡ T.reach (T.layersOf header) k) ⌝ }
     requires { ⌜ T.Held (T.layersOf header) k (now held) reach ⌝ }
     requires { ⌜ T.Tried (T.layersOf header) (now t) k n ⌝ }
     ensures { λ _. ⌜ T.Tried (T.layersOf header) (now (t .exit)) k (suc n) ⌝ }
@@ -53,7 +54,7 @@ fn try_count(t: &mut [u64], held: &[u64], header: Header, k: usize, span: u64, n
 
 // Row k + 1, from what row k is carried to.
 fn fill_row(t: &mut [u64], held: &[u64], header: Header, k: usize, span: u64, reach: usize)
-    requires { ⌜ (O.right header ≡ true) × (k < layersMost) × (span ≡ Hd.cellsAt (header .shape) k) × (reach ≡ T.reach (T.layersOf header) k) ⌝ }
+    requires { ⌜ (O.wellFormed header ≡ true) × (k < layersMost) × (span ≡ W.cellsAt (header .shape) k) × (reach ≡ T.reach (T.layersOf header) k) ⌝ }
     requires { ⌜ T.Held (T.layersOf header) k (now held) reach ⌝ }
     requires { ⌜ T.Rows (T.layersOf header) (now t) k ⌝ }
     ensures { λ _. ⌜ T.Rows (T.layersOf header) (now (t .exit)) (suc k) ⌝ }
@@ -67,7 +68,7 @@ fn fill_row(t: &mut [u64], held: &[u64], header: Header, k: usize, span: u64, re
 
 // The whole table, from one that holds nothing; `held` has room for a row.
 pub(crate) fn fill(t: &mut [u64], held: &mut [u64], header: Header)
-    requires { ⌜ (O.right header ≡ true) × (now t ≡ replicate T.tableLength T.none) × (length (now held) ≡ T.rowLength) ⌝ }
+    requires { ⌜ (O.wellFormed header ≡ true) × (now t ≡ replicate T.tableLength T.none) × (length (now held) ≡ T.rowLength) ⌝ }
     ensures { λ _. ⌜ T.Rows (T.layersOf header) (now (t .exit)) layersMost ⌝ }
 {
     t[0] = 0;

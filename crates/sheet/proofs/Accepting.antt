@@ -9,7 +9,8 @@ use borrow.Author.Tests.{leb-true, le-leb, ltb-true, lt-ltb}
 use Rattle.integers.specs.Floor.{ceilDiv}
 use Rattle.sheet.specs.declared.Shape.{Shape}
 use Rattle.sheet.specs.Limits.{pointsMost, depthMost, levelsMost, directionsOf, layersMost}
-use Rattle.sheet.specs.Sheet.{sized, accepted, points, pointsIn, directions, layers, hasLayer, layerCount}
+use Rattle.sheet.specs.Sheet.{sized, accepted, points, directions, layers}
+use Rattle.sheet.specs.Workings.Shapes.{pointsIn, hasLayer, layerCount}
 use Rattle.integers.proofs.Bools.{and-left, and-right, and-both, by}
 
 pub record Sized (depth rows cols : ℕ) : Type 0 where

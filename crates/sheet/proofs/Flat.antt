@@ -1,4 +1,4 @@
--- At depth 1 the layers are document 01's: two directions, so 1 + 2L layers, and a sheet's number that is 0, which is a multiple of
+-- At depth 1 the layers are a sheet's, as docs/CARD.md has them: two directions, so 1 + 2L layers, and a sheet's number that is 0, which is a multiple of
 -- anything.
 use mathlib.Core.Path.{_≡_, refl, ap}
 use mathlib.Core.Bool.{Bool, true, false, cond, _&&_}
@@ -14,7 +14,7 @@ use Rattle.sheet.specs.declared.Direction.{Direction}
 use Rattle.sheet.specs.declared.Direction.the-variants.{Anchor, Across, Down, Between}
 use Rattle.sheet.specs.Sheet.{sheetOf, points, directions, layers, spacing, direction, member, inLayer}
 
--- the rule of document 01 for a row and a column
+-- the rule for a row and a column
 abbrev pub flatMember : Direction → ℕ → ℕ → ℕ → Bool
 flatMember Anchor s r c = eqb (r % s) 0 && eqb (c % s) 0
 flatMember Across s r c = eqb (r % (2 * s)) 0 && eqb (c % (2 * s)) s

@@ -8,7 +8,8 @@ use lib.ListN.{length, take}
 use lib.Seq.{take-all}
 use Rattle.sheet.specs.declared.Shape.{Shape}
 use Rattle.sheet.specs.Limits.{layersMost}
-use Rattle.sheet.specs.Sheet.{layers, layerCount}
+use Rattle.sheet.specs.Sheet.{layers}
+use Rattle.sheet.specs.Workings.Shapes.{layerCount}
 
 module _ (sh : Shape) where
   pub count-few : layerCount sh ≤ layersMost

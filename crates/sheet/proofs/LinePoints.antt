@@ -1,46 +1,30 @@
 -- Where a layer's points stand, line by line: the point on sheet sheet + a · deep, row row + r · down and column col + j · right of its grid has a of the
--- grid's sheets, r of the rows and j of the columns before it, so counting gives it the place (a · lines + r) · points + j.
+-- grid's sheets, r of the rows and j of the columns before it, so counting gives it the place (a · lines + r) · points + j. And the lines' numbers are small, so the call that
+-- tells where a line starts tells just that.
 use mathlib.Core.Path.{_≡_, sym, ap, ap₂, subst, _∙_}
-use mathlib.Core.Bool.{Bool, true, false, _&&_}
+use mathlib.Core.Bool.{Bool, true, _&&_}
 use Prim.Native.Nat.{ℕ, zero, suc, _+_, _*_, _/_, _%_, _^_, _<_, _≤_}
 use native.Mathlib.Nat.{le-trans, mul-le-mul, mul-le-mul-right, div-add-mod', mod-lt, div-lt-iff-lt-mul, div-one, mod-one}
 use native.Mathlib.Omega.{arith}
 use lib.Arith.{digits-div, digits-mod}
-use lib.Dec.{eqb}
-use borrow.Author.Tests.{eq-eqb, eqb-true, lt-ltb}
+use lib.Dec.{ltb}
+use borrow.Author.Tests.{eq-eqb}
 use Rattle.sheet.specs.declared.Shape.{Shape}
 use Rattle.sheet.specs.declared.Grid.{Grid}
 use Rattle.sheet.specs.declared.Lines.{Lines}
 use Rattle.sheet.specs.Limits.{levelsMost}
 use Rattle.sheet.specs.Lists.{count}
 use Rattle.sheet.specs.Sheet.{accepted, points, place, layers, inLayer, layerSize, pointOf, placeIn}
-use Rattle.sheet.specs.Lines.{gridOf, linesOf, oneLine, asOneLine, lineStart, linesMost, startIn, rowLines, layerLines}
-use Rattle.integers.proofs.Bools.{and-both, by}
+use Rattle.sheet.specs.Workings.Shapes.{hasLayer, sizeAt}
+use Rattle.sheet.specs.Workings.Lines.{gridOf, linesOf, rowLines, lineStart, linesMost, startIn, Lined}
+use Rattle.integers.proofs.Bools.{and-left, and-both, by}
 use Rattle.sheet.proofs.Accepting.{Sheet, accepted-yes}
 use Rattle.sheet.proofs.Fits.{place-in, rows-small, cols-small}
 use Rattle.sheet.proofs.Lists.{count-same}
 use Rattle.sheet.proofs.OnGrid.{Good, layer-good, onSheet, onRow, onCol, in-grid}
-use Rattle.sheet.proofs.Places.{point-on, point-place}
+use Rattle.sheet.proofs.Places.{point-on, point-place, sizing-own}
 use Rattle.sheet.proofs.Starts.{Close, start-is}
 use Rattle.sheet.proofs.Size.{count-place, count-steps, count-at, step-in, steps-most, layer-size}
-
--- these are the lines of layer k, counted on through the sheets
-pub record Lined (sh : Shape) (k : ℕ) (l : Lines) : Type 0 where
-  pub some : 0 < l .stride
-  pub few : l .sheets * l .lines ≤ linesMost
-  pub close : Close l
-  pub size : l .sheets * l .lines * l .points ≡ layerSize sh k
-  pub point : (t j : ℕ) → t < l .sheets * l .lines → j < l .points → pointOf sh k (t * l .points + j) ≡ lineStart l t + j * l .stride
-
--- a layer has the points of all its lines
-pub lines-size : (sh : Shape) (k : ℕ) → linesOf sh k .sheets * linesOf sh k .lines * linesOf sh k .points ≡ layerSize sh k
-lines-size sh k = sym (layer-size sh k)
-
--- and not too many lines, even where they have no points
-pub lines-few : (sh : Shape) → Sheet sh → (k : ℕ) → linesOf sh k .sheets * linesOf sh k .lines ≤ linesMost
-lines-few sh ok k =
-    let g = gridOf sh k in
-    mul-le-mul (le-trans (steps-most (g .sheet) (g .deep) (sh .depth)) (ok .flat)) (le-trans (steps-most (g .row) (g .down) (sh .rows)) (rows-small ok))
 
 module _ (sh : Shape) (ok : Sheet sh) (k : ℕ) where
   abbrev G : Grid
@@ -126,88 +110,96 @@ module _ (sh : Shape) (ok : Sheet sh) (k : ℕ) where
           ∙ point-place sh k (place sh sheet row col) (place-in sh sheet-in row-in col-in) line-in
           ∙ omega arith
 
--- the rows of the grid, where the layer is there
-pub lines-here : (sh : Shape) (k : ℕ) → accepted sh ≡ true → k < layers sh → rowLines sh k ≡ linesOf sh k
-unfolding rowLines
-lines-here sh k ok h = rw (ok, lt-ltb k (layers sh) h)
+-- where every row has one point, the points of a sheet are one line
+abbrev pub oneLine : Lines → Lines
+oneLine l = record { first = l .first; sheets = l .sheets; beyond = l .beyond; lines = 1; apart = l .apart; points = l .lines; stride = l .apart }
 
-pub pos-of-lt-mul : (a b t : ℕ) → t < a * b → 0 < b
+pos-of-lt-mul : (a b t : ℕ) → t < a * b → 0 < b
 pos-of-lt-mul a zero t h = absurd (omega arith)
 pos-of-lt-mul a (suc b) t h = omega arith
 
-module _ (sh : Shape) (ok : Sheet sh) (k : ℕ) where
+-- ---- of a layer that is there
+module _ (sh : Shape) (k : ℕ) (there : hasLayer sh k ≡ true) where
   abbrev l : Lines
   l = linesOf sh k
 
   abbrev g : Grid
   g = gridOf sh k
 
-  -- line t is line t % lines of sheet t / lines
-  rows-lined : Lined sh k l
-  unfolding lineStart
-  rows-lined =
+  ok : Sheet sh
+  ok = accepted-yes sh (and-left (accepted sh) (ltb k (layers sh)) there)
+
+  pub lines-here : rowLines sh k ≡ linesOf sh k
+  unfolding rowLines
+  lines-here = rw there
+
+  size-here : l .sheets * l .lines * l .points ≡ sizeAt sh k
+  unfolding sizeAt
+  size-here = rw there (sym (layer-size sh k))
+
+  -- lines whose numbers are small: the call tells where they start
+  lined : (m : Lines) → m .sheets * m .lines ≤ linesMost → Close m → m .sheets * m .lines * m .points ≡ sizeAt sh k
+      → ((t j : ℕ) → t < m .sheets * m .lines → j < m .points → pointOf sh k (t * m .points + j) ≡ lineStart m t + j * m .stride) → Lined sh k m
+  lined m few close size point =
       record {
-        some = omega (arith, good sh ok k .col);
-        few = lines-few sh ok k;
-        close = line-close sh ok k;
-        size = lines-size sh k;
-        point = λ t j h hj.
-            ap (λ (x : ℕ). pointOf sh k (x * l .points + j)) (sym (div-add-mod' t (l .lines)))
-            ∙ line-point sh ok k (t / l .lines) (t % l .lines) (sheet t h) (mod-lt t (some t h)) j hj;
+        few = few;
+        size = size;
+        point = λ t j ht hj.
+            point t j ht hj
+            ∙ ap (λ (x : ℕ). x + j * m .stride) (sym (start-is m t (record { some = pos-of-lt-mul (m .sheets) (m .lines) t ht; line = omega arith; close = close })));
       }
+
+  -- line t is line t % lines of sheet t / lines
+  rows-here : Lined sh k l
+  unfolding lineStart
+  rows-here =
+      lined l
+      (mul-le-mul (le-trans (steps-most (g .sheet) (g .deep) (sh .depth)) (ok .flat)) (le-trans (steps-most (g .row) (g .down) (sh .rows)) (rows-small ok)))
+      (line-close sh ok k) size-here
+      (λ t j h hj.
+      ap (λ (x : ℕ). pointOf sh k (x * l .points + j)) (sym (div-add-mod' t (l .lines)))
+      ∙ line-point sh ok k (t / l .lines) (t % l .lines) (div-lt-iff-lt-mul (some t h) .1 h) (mod-lt t (some t h)) j hj)
     where
       some : (t : ℕ) → t < l .sheets * l .lines → 0 < l .lines
       some t h = pos-of-lt-mul (l .sheets) (l .lines) t h
 
-      sheet : (t : ℕ) → t < l .sheets * l .lines → t / l .lines < l .sheets
-      sheet t h = div-lt-iff-lt-mul (some t h) .1 h
-
   -- where every row has one point, point j of a sheet's line is that of its row j
-  one-lined : l .points ≡ 1 → Lined sh k (oneLine l)
+  one-here : l .points ≡ 1 → Lined sh k (oneLine l)
   unfolding lineStart
+  one-here one =
+      lined (oneLine l)
+      (omega (arith, steps-most (g .sheet) (g .deep) (sh .depth), ok .flat))
+      (let c = line-close sh ok k in record { first = c .first; beyond = c .beyond; apart = c .apart })
+      (let e : l .sheets * l .lines * 1 ≡ sizeAt sh k = ap (λ (x : ℕ). l .sheets * l .lines * x) (sym one) ∙ size-here in
+      omega arith)
+      (λ t j h hj.
+      let x = t * l .lines + j in
+      let e : x * l .points + 0 ≡ x * 1 + 0 = ap (λ (y : ℕ). x * y + 0) one in
+      let f : x ≡ x * l .points + 0 = omega arith in
+      rw (div-one t, mod-one t) (ap (pointOf sh k) f ∙ line-point sh ok k t j (omega arith) hj 0 (omega (arith, one)) ∙ omega arith))
+
+-- ---- of any shape and layer: where there is no such layer, there are no lines
+module _ (sh : Shape) (k : ℕ) where
+  pub rows-lined : Lined sh k (rowLines sh k)
+  unfolding rowLines sizeAt
+  rows-lined =
+      by (hasLayer sh k)
+      (λ m. subst (Lined sh k) (sym (lines-here sh k m)) (rows-here sh k m))
+      (λ m. rw m (record { few = omega arith; size = rw m; point = λ t j h hj. absurd (let z : ⊥ = omega arith in z) }))
+
+  pub one-lined : rowLines sh k .points ≡ 1 → Lined sh k (oneLine (rowLines sh k))
+  unfolding rowLines
   one-lined one =
-      record {
-        some = omega (arith, mul-le-mul (good sh ok k .row) (ok .wide));
-        few = omega (arith, steps-most (g .sheet) (g .deep) (sh .depth), ok .flat);
-        close = let c = line-close sh ok k in record { first = c .first; beyond = c .beyond; apart = c .apart };
-        size =
-            let e : l .sheets * l .lines * 1 ≡ layerSize sh k = ap (λ (x : ℕ). l .sheets * l .lines * x) (sym one) ∙ lines-size sh k in
-            let f : l .sheets * 1 * l .lines ≡ layerSize sh k = omega arith in
-            f;
-        point = λ t j h hj.
-            let x = t * l .lines + j in
-            let e : x * l .points + 0 ≡ x * 1 + 0 = ap (λ (y : ℕ). x * y + 0) one in
-            let f : x ≡ x * l .points + 0 = omega arith in
-            rw (div-one t, mod-one t) (ap (pointOf sh k) f ∙ line-point sh ok k t j (omega arith) hj 0 (omega (arith, one)) ∙ omega arith);
-      }
+      by (hasLayer sh k)
+      (λ m. let e = lines-here sh k m in subst (λ (x : Lines). Lined sh k (oneLine x)) (sym e) (one-here sh k m (ap (λ (x : Lines). x .points) (sym e) ∙ one)))
+      (λ m. absurd (let z : 0 ≡ 1 = rw m at one in omega arith))
 
--- both ways of joining
-module _ (l : Lines) where
-  pub joined-is : eqb (l .points) 1 ≡ true → asOneLine l ≡ oneLine l
-  unfolding asOneLine
-  joined-is m = rw m
-
-  pub joined-not : eqb (l .points) 1 ≡ false → asOneLine l ≡ l
-  unfolding asOneLine
-  joined-not m = rw m
-
-pub lined : (sh : Shape) (k : ℕ) (l : Lines) → accepted sh ≡ true → k < layers sh → l ≡ layerLines sh k → Lined sh k l
-lined sh k l ok h is =
-    let s = accepted-yes sh ok in
-    subst (Lined sh k) (sym (is ∙ ap asOneLine (lines-here sh k ok h)))
-    (by (eqb (linesOf sh k .points) 1)
-    (λ m. subst (Lined sh k) (sym (joined-is (linesOf sh k) m)) (one-lined sh s k (eqb-true _ 1 m)))
-    (λ m. subst (Lined sh k) (sym (joined-not (linesOf sh k) m)) (rows-lined sh s k)))
-
+-- ---- what a walk along the lines asks
 module _ {sh : Shape} {k : ℕ} {l : Lines} (d : Lined sh k l) (t : ℕ) (ht : t < l .sheets * l .lines) where
-  -- where it starts
-  pub line-there : startIn l t ≡ lineStart l t
-  line-there = start-is l t (record { some = pos-of-lt-mul (l .sheets) (l .lines) t ht; line = omega (arith, d .few); close = d .close })
-
   -- a line's points end in the layer's
   pub line-room : t * l .points + l .points ≤ layerSize sh k
-  line-room = omega (arith, d .size, mul-le-mul-right (l .points) ht)
+  line-room = omega (arith, d .size, sizing-own sh k, mul-le-mul-right (l .points) ht)
 
   -- and each stands in the sheet
-  pub line-on : (j : ℕ) → j < l .points → lineStart l t + j * l .stride < points sh
+  pub line-on : (j : ℕ) → j < l .points → startIn l t + j * l .stride < points sh
   line-on j hj = rw (← d .point t j ht hj) (point-on sh k (t * l .points + j) (omega (arith, line-room)))

@@ -14,7 +14,7 @@ use Rattle.sheet.specs.declared.Direction.{Direction}
 use Rattle.sheet.specs.declared.Direction.the-variants.{Anchor, Across, Down, Between}
 use Rattle.sheet.specs.Limits.{levelsMost}
 use Rattle.sheet.specs.Sheet.{accepted, layers, member, direction, spacing, has, inLayer}
-use Rattle.sheet.specs.Lines.{gridFor, gridOf, gridAt}
+use Rattle.sheet.specs.Workings.Lines.{gridFor, gridOf, gridAt}
 use Rattle.sheet.proofs.Parity.{divided}
 use Rattle.sheet.proofs.Fits.{spacing-some, spacing-small}
 use Rattle.integers.proofs.Bools.{and-both, and-no-left, and-no-right}

@@ -1,10 +1,17 @@
 -- A layer's points in row order: point i of a layer and the place of a point among its layer's are each other's inverse, by the laws of
--- counting.
+-- counting. A layer that may not be there has the layer's points or none.
 use mathlib.Core.Path.{_≡_}
 use mathlib.Core.Bool.{true, false}
 use Prim.Native.Nat.{ℕ, _<_, _≤_}
+use native.Mathlib.Nat.{le-refl}
+use native.Mathlib.Omega.{arith}
+use lib.Dec.{ltb}
 use Rattle.sheet.specs.declared.Shape.{Shape}
-use Rattle.sheet.specs.Sheet.{points, inLayer, layerSize, pointOf, placeIn}
+use Rattle.sheet.specs.Limits.{pointsMost}
+use Rattle.sheet.specs.Sheet.{accepted, points, layers, inLayer, layerSize, pointOf, placeIn}
+use Rattle.sheet.specs.Workings.Shapes.{hasLayer, sizeAt}
+use Rattle.integers.proofs.Bools.{by, and-left}
+use Rattle.sheet.proofs.Accepting.{accepted-yes}
 use Rattle.sheet.proofs.Lists.{count-most, count-before, count-none, nth-is, nth-count}
 
 module _ (sh : Shape) (k : ℕ) where
@@ -40,3 +47,15 @@ module _ (sh : Shape) (k : ℕ) where
     pub point-place : pointOf sh k (placeIn sh k p) ≡ p
     unfolding pointOf placeIn
     point-place = nth-count (inLayer sh k) (points sh) p h m
+
+  -- ---- of a layer that may not be there
+  pub sizing-own : sizeAt sh k ≤ layerSize sh k
+  unfolding sizeAt
+  sizing-own = by (hasLayer sh k) (λ m. rw m (le-refl (layerSize sh k))) (λ m. rw m (omega arith))
+
+  pub sizing-most : sizeAt sh k ≤ pointsMost
+  unfolding sizeAt
+  sizing-most =
+      by (hasLayer sh k)
+      (λ m. rw m (omega (arith, size-most, accepted-yes sh (and-left (accepted sh) (ltb k (layers sh)) m) .small)))
+      (λ m. rw m (omega arith))

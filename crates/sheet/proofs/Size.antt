@@ -14,7 +14,7 @@ use Rattle.sheet.specs.declared.Direction.{Direction}
 use Rattle.sheet.specs.declared.Direction.the-variants.{Anchor, Across, Down, Between}
 use Rattle.sheet.specs.Lists.{count, total}
 use Rattle.sheet.specs.Sheet.{accepted, points, layers, direction, spacing, inLayer, layerSize}
-use Rattle.sheet.specs.Lines.{gridFor, gridOf, steps}
+use Rattle.sheet.specs.Workings.Lines.{gridFor, gridOf, steps}
 use Rattle.integers.proofs.Bools.{by}
 use Rattle.sheet.proofs.Parity.{divided}
 use Rattle.sheet.proofs.Lists.{count-same, count-add, count-either, count-empty, count-all}

@@ -7,7 +7,7 @@ use lib.Dec.{ltb, leb}
 use borrow.Author.Tests.{ltb-true, lt-ltb, leb-true, le-leb}
 use Rattle.integers.proofs.Bools.{and-left, and-right, and-both}
 use Rattle.sheet.specs.declared.Lines.{Lines}
-use Rattle.sheet.specs.Lines.{lineStart, linesMost, far, near, startIn}
+use Rattle.sheet.specs.Workings.Lines.{lineStart, linesMost, far, near, startIn}
 
 -- no number is past any layer's
 pub record Close (l : Lines) : Type 0 where

@@ -1,4 +1,4 @@
 pub mod Limits
 pub mod Lists
 pub mod Sheet
-pub mod Lines
+pub mod Workings

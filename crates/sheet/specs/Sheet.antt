@@ -1,21 +1,22 @@
--- The sheet and its layers (document 01). A point p of a sheet of C columns stands at row p / C, column p % C: row order.
--- Request 10 brings stacks, in which sheets follow one another and rows count on through them: p then stands at row p / C % R of sheet p / C / R.
--- A sheet by itself has depth 1: its points all stand in sheet 0, and what is said of a sheet's number z says nothing there (`Flat`).
+-- The sheet and its layers (docs/CARD.md, "The sheet" and "Layers"). The point p of a sheet of C columns stands at row p / C, column p % C: row order.
+-- Stacks are to come, in which sheets follow one another and rows count on through them: p then stands at row p / C % R of sheet p / C / R.
+-- A sheet by itself has depth 1: its points all stand in sheet 0, and what is said of a sheet's number z says nothing there (`sheet`, proofs/Flat).
 use mathlib.Core.Bool.{Bool, cond, _&&_}
-use Prim.Native.Nat.{ℕ, _+_, _-_, _*_, _/_, _%_, _^_, min}
-use lib.Dec.{leb, ltb, eqb}
+use Prim.Native.Nat.{ℕ, _+_, _-_, _*_, _/_, _%_, _^_}
+use lib.Dec.{leb, eqb}
 use Rattle.integers.specs.Floor.{ceilDiv}
 use Rattle.sheet.specs.declared.Shape.{Shape}
 use Rattle.sheet.specs.declared.Direction.{Direction}
 use Rattle.sheet.specs.declared.Direction.the-variants.{Anchor, Across, Down, Between}
-use Rattle.sheet.specs.Limits.{pointsMost, depthMost, levelsMost, directionsOf, layersMost}
+use Rattle.sheet.specs.Limits.{pointsMost, depthMost, levelsMost, directionsOf}
 use Rattle.sheet.specs.Lists.{count, nth}
 
--- "R rows and C columns, both at least 1, R × C at most 8,192."; one sheet, until request 10
+-- R and C are at least 1, and R × C is at most 8,192; one sheet, until stacks come. Writing and opening say the same in their own terms; this is
+-- for what they hand on
 unfoldable pub sized : ℕ → ℕ → ℕ → Bool
 sized depth rows cols = ((leb 1 depth && leb depth depthMost) && (leb 1 rows && leb 1 cols)) && leb (depth * rows * cols) pointsMost
 
--- "Levels L: 0 to 6."
+-- and the levels are at most 6
 unfoldable pub accepted : Shape → Bool
 accepted sh = sized (sh .depth) (sh .rows) (sh .cols) && leb (sh .levels) levelsMost
 
@@ -23,43 +24,27 @@ accepted sh = sized (sh .depth) (sh .rows) (sh .cols) && leb (sh .levels) levels
 abbrev pub sheetOf : ℕ → ℕ → ℕ → Shape
 sheetOf rows cols levels = record { depth = 1; rows = rows; cols = cols; levels = levels }
 
--- a single column stands in memory as a single row does, and is walked as one
-abbrev pub laid : Shape → Shape
-laid sh = cond (eqb (sh .cols) 1) (record { depth = sh .depth; rows = 1; cols = sh .rows; levels = sh .levels }) sh
-
 -- how many points a sheet has
 abbrev pub points : Shape → ℕ
 points sh = sh .depth * sh .rows * sh .cols
-
--- the same of any shape: 0 where no sheet has it
-unfoldable pub pointsIn : Shape → ℕ
-pointsIn sh = cond (accepted sh) (points sh) 0
 
 -- the point at row r and column c of sheet z
 abbrev pub place : Shape → ℕ → ℕ → ℕ → ℕ
 place sh z r c = (z * sh .rows + r) * sh .cols + c
 
--- "Then for s = 2^(L-1) down to 1 come two layers", across and down
+-- the layers of each spacing: two, across and down
 unfoldable pub directions : Shape → ℕ
 directions sh = directionsOf (sh .depth)
 
--- "So there are 1 + 2L layers, numbered from 0"
+-- 1 + 2L layers, numbered from 0
 abbrev pub layers : Shape → ℕ
 layers sh = 1 + directions sh * sh .levels
-
--- is layer k one of an accepted shape's?
-abbrev pub hasLayer : Shape → ℕ → Bool
-hasLayer sh k = accepted sh && ltb k (layers sh)
-
--- how many layers a shape has, whatever its levels: no more than a sheet can have
-unfoldable pub layerCount : Shape → ℕ
-layerCount sh = min (layers sh) layersMost
 
 -- s of layer k: 2^L for the anchors, and 2^(L-1) down to 1 for the layers of each level after them
 unfoldable pub spacing : Shape → ℕ → ℕ
 spacing sh k = 2 ^ (sh .levels - ceilDiv k (directions sh))
 
--- the directions of a level, in order; the third is request 10's
+-- the directions of a level, in order; the third is a stack's
 abbrev pub turn : ℕ → Direction
 turn i = cond (eqb i 0) Across (cond (eqb i 1) Down Between)
 
@@ -74,7 +59,7 @@ along sh Across = sh .cols
 along sh Down = sh .rows
 along sh Between = sh .depth
 
--- does the point at row r and column c (of sheet z, 0 until request 10) stand in a layer of this direction and spacing?
+-- does the point at row r and column c (of sheet z, 0 until stacks come) stand in a layer of this direction and spacing?
 --     anchors: row and column multiples of s (their s is 2^L), and z
 --     across:  row a multiple of 2s, column an odd multiple of s, and z a multiple of 2s
 --     down:    row an odd multiple of s, column a multiple of s, and z a multiple of 2s
@@ -96,11 +81,7 @@ inLayer sh k p = has sh k (p / sh .cols / sh .rows) (p / sh .cols % sh .rows) (p
 unfoldable pub layerSize : Shape → ℕ → ℕ
 layerSize sh k = count (inLayer sh k) (points sh)
 
--- the same of any shape and layer: a layer that is not there has none
-unfoldable pub sizeAt : Shape → ℕ → ℕ
-sizeAt sh k = cond (hasLayer sh k) (layerSize sh k) 0
-
--- "A layer's points stand in row order": point i of layer k, and the place of point p among its layer's
+-- a layer's points are numbered in row order: point i of layer k, and the number of point p among its layer's
 unfoldable pub pointOf : Shape → ℕ → ℕ → ℕ
 pointOf sh k i = nth (inLayer sh k) (points sh) i
 

@@ -4,7 +4,7 @@ ghost use mathlib.Core.Bool.{true};
 ghost use Prim.Native.Nat.{_^_, _<_, _≤_};
 ghost use Rattle.sheet.specs.Limits.{levelsMost};
 ghost use Rattle.sheet.specs.Sheet as S;
-ghost use Rattle.sheet.specs.Lines as L;
+ghost use Rattle.sheet.specs.Workings.Lines as L;
 use crate::Direction;
 use crate::Grid;
 use crate::Shape;

@@ -1,5 +1,5 @@
 // A sheet and its layers: the shapes that are accepted, and the points of each layer as a grid and as lines.
-// Sheets stand in a stack too, once request 10 brings stacks of them.
+// Sheets stand in a stack too, once stacks come.
 mod grids;
 mod shapes;
 mod sizes;
@@ -15,10 +15,10 @@ pub use sizes::layer_lines;
 pub use sizes::layer_size;
 pub use sizes::line_start;
 
-// Document 01's sizes of a sheet, and the layers that so many levels make.
+// The sizes of a sheet, and the layers that so many levels make.
 pub const MOST_POINTS: usize = 8192;
 
-// Sheets in a stack: one, until request 10 makes it 64.
+// Sheets in a stack: one, until stacks come.
 pub const MOST_DEPTH: usize = 1;
 
 pub const MOST_LEVELS: usize = 6;

@@ -1,13 +1,14 @@
 // Shapes that a sheet can have, and how many layers each has.
 ghost use mathlib.Core.Path.{_≡_};
 ghost use Rattle.sheet.specs.Sheet as S;
+ghost use Rattle.sheet.specs.Workings.Shapes as W;
 use crate::MOST_DEPTH;
 use crate::MOST_LAYERS;
 use crate::MOST_LEVELS;
 use crate::MOST_POINTS;
 use crate::Shape;
 
-// Can a sheet have so many rows and columns? They are bounded before they are multiplied. Its depth is 1 (until request 10).
+// Can a sheet have so many rows and columns? They are bounded before they are multiplied. Its depth is 1, until stacks come.
 pub fn sized(depth: usize, rows: usize, cols: usize) -> bool
     ensures { λ r. ⌜ r ≡ S.sized depth rows cols ⌝ }
 {
@@ -47,7 +48,7 @@ pub fn accepted(shape: Shape) -> bool
 
 // How many points a sheet has; 0 where no sheet has such a shape.
 pub fn points(shape: Shape) -> usize
-    ensures { λ r. ⌜ r ≡ S.pointsIn shape ⌝ }
+    ensures { λ r. ⌜ r ≡ W.pointsIn shape ⌝ }
 {
     if !accepted(shape) {
         return 0;
@@ -60,7 +61,7 @@ pub fn points(shape: Shape) -> usize
 
 // A single column stands in memory as a single row does, and is walked as one.
 pub fn laid(shape: Shape) -> Shape
-    ensures { λ r. ⌜ r ≡ S.laid shape ⌝ }
+    ensures { λ r. ⌜ r ≡ W.laid shape ⌝ }
 {
     if shape.cols != 1 {
         return shape;
@@ -82,7 +83,7 @@ pub(crate) fn directions(shape: Shape) -> usize
 
 // How many layers a shape has; no more than a sheet can have, whatever the levels.
 pub fn layer_count(shape: Shape) -> usize
-    ensures { λ r. ⌜ r ≡ S.layerCount shape ⌝ }
+    ensures { λ r. ⌜ r ≡ W.layerCount shape ⌝ }
 {
     let levels = shape.levels;
     let n = directions(shape);
@@ -97,7 +98,7 @@ pub fn layer_count(shape: Shape) -> usize
 
 // Is this layer one of an accepted shape's?
 pub(crate) fn has_layer(shape: Shape, layer: usize) -> bool
-    ensures { λ r. ⌜ r ≡ S.hasLayer shape layer ⌝ }
+    ensures { λ r. ⌜ r ≡ W.hasLayer shape layer ⌝ }
 {
     if accepted(shape) {
         return layer < layer_count(shape);

@@ -2,8 +2,8 @@
 ghost use mathlib.Core.Path.{_≡_};
 ghost use Prim.Native.Nat.{_*_, _^_, _<_, _≤_};
 ghost use Rattle.sheet.specs.Limits.{pointsMost, levelsMost};
-ghost use Rattle.sheet.specs.Sheet as S;
-ghost use Rattle.sheet.specs.Lines as L;
+ghost use Rattle.sheet.specs.Workings.Shapes as W;
+ghost use Rattle.sheet.specs.Workings.Lines as L;
 use crate::Lines;
 use crate::MOST_DEPTH;
 use crate::MOST_LEVELS;
@@ -56,7 +56,7 @@ fn row_lines(shape: Shape, layer: usize) -> Lines
 
 // A layer as lines: its rows, or its columns where every row has one point, so that a walk goes along whichever is long.
 pub fn layer_lines(shape: Shape, layer: usize) -> Lines
-    ensures { λ r. ⌜ r ≡ L.layerLines shape layer ⌝ }
+    ensures { λ r. ⌜ L.Lined shape layer r ⌝ }
 {
     let l = row_lines(shape, layer);
     if l.points != 1 {
@@ -75,7 +75,7 @@ pub fn layer_lines(shape: Shape, layer: usize) -> Lines
 
 // How many points a layer has; none where there is no such layer.
 pub fn layer_size(shape: Shape, layer: usize) -> usize
-    ensures { λ r. ⌜ r ≡ S.sizeAt shape layer ⌝ }
+    ensures { λ r. ⌜ r ≡ W.sizeAt shape layer ⌝ }
 {
     let l = row_lines(shape, layer);
     l.sheets * l.lines * l.points
@@ -111,7 +111,7 @@ fn is_near(l: Lines, t: usize) -> bool
 }
 
 // Where line t of a layer starts; 0 where there are no lines, or t or a number of theirs is past any layer's. Lines count on through the sheets; of
-// a single sheet (until request 10) none lies beyond the first.
+// a single sheet (until stacks come) none lies beyond the first.
 pub fn line_start(l: Lines, t: usize) -> usize
     ensures { λ r. ⌜ r ≡ L.startIn l t ⌝ }
 {

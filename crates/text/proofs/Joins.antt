@@ -15,8 +15,8 @@ use lib.ListN.{length, take, drop, getD, length-append, length-take}
 use lib.Seq.{take-suc, take-append-seam, drop-append-add, split-at, append-snoc}
 use Rattle.text.specs.declared.Number.{Number}
 use Rattle.text.specs.declared.Number.the-variants as N
-use Rattle.text.specs.Decimal.{digits, parsed}
-use Rattle.text.specs.Line.{newline, before}
+use Rattle.text.specs.Decimal.{decimal, parsed}
+use Rattle.text.specs.Line.{newline, indexOf}
 use Rattle.text.specs.Joined.{comma, joined, consNumber, numbersIn}
 use Rattle.text.proofs.Reading.{Spelt, spelt, read-digits}
 use Rattle.text.proofs.Search.{Free, found, before-seam, free-append, no-newline, no-comma}
@@ -26,31 +26,31 @@ unfolding joined
 joined-none [] e = refl
 joined-none (n ∷ ns) e = absurd (let z : ⊥ = omega arith in z)
 
-pub joined-cons : (n : ℕ) (ns : List ℕ) → 0 < length ns → joined (n ∷ ns) ≡ digits n ++ comma ∷ joined ns
+pub joined-cons : (n : ℕ) (ns : List ℕ) → 0 < length ns → joined (n ∷ ns) ≡ decimal n ++ comma ∷ joined ns
 unfolding joined
 joined-cons n [] h = absurd (let z : ⊥ = omega arith in z)
 joined-cons n (m ∷ ns) h = refl
 
 -- ---- one number more at the end
-pub joined-snoc : (ns : List ℕ) (m : ℕ) → 0 < length ns → joined (ns ++ m ∷ []) ≡ joined ns ++ comma ∷ digits m
+pub joined-snoc : (ns : List ℕ) (m : ℕ) → 0 < length ns → joined (ns ++ m ∷ []) ≡ joined ns ++ comma ∷ decimal m
 unfolding joined
 joined-snoc [] m h = absurd (let z : ⊥ = omega arith in z)
 joined-snoc (n ∷ []) m h = refl
-joined-snoc (n ∷ k ∷ ns) m h = ap (λ (l : List ℕ). digits n ++ comma ∷ l) (joined-snoc (k ∷ ns) m (omega arith)) ∙ sym (append-assoc (digits n) (comma ∷ joined (k ∷ ns)) (comma ∷ digits m))
+joined-snoc (n ∷ k ∷ ns) m h = ap (λ (l : List ℕ). decimal n ++ comma ∷ l) (joined-snoc (k ∷ ns) m (omega arith)) ∙ sym (append-assoc (decimal n) (comma ∷ joined (k ∷ ns)) (comma ∷ decimal m))
 
-pub joined-one : (ns : List ℕ) → 0 < length ns → joined (take 1 ns) ≡ digits (getD ns 0 0)
+pub joined-one : (ns : List ℕ) → 0 < length ns → joined (take 1 ns) ≡ decimal (getD ns 0 0)
 unfolding joined
 joined-one [] h = absurd (let z : ⊥ = omega arith in z)
 joined-one (n ∷ ns) h = refl
 
 -- one number more
-pub joined-more : (ns : List ℕ) (i : ℕ) → 0 < i → i < length ns → joined (take (i + 1) ns) ≡ joined (take i ns) ++ (comma ∷ []) ++ digits (getD ns i 0)
+pub joined-more : (ns : List ℕ) (i : ℕ) → 0 < i → i < length ns → joined (take (i + 1) ns) ≡ joined (take i ns) ++ (comma ∷ []) ++ decimal (getD ns i 0)
 joined-more ns i p h =
     ap joined (ap (λ (k : ℕ). take k ns) (add-one i) ∙ take-suc ns i 0 h)
     ∙ joined-snoc (take i ns) (getD ns i 0) (omega (arith, length-take i ns))
-    ∙ sym (append-snoc (joined (take i ns)) comma (digits (getD ns i 0)))
+    ∙ sym (append-snoc (joined (take i ns)) comma (decimal (getD ns i 0)))
 
-pub joined-longer : (ns : List ℕ) (i : ℕ) → 0 < i → i < length ns → length (joined (take (i + 1) ns)) ≡ length (joined (take i ns)) + 1 + length (digits (getD ns i 0))
+pub joined-longer : (ns : List ℕ) (i : ℕ) → 0 < i → i < length ns → length (joined (take (i + 1) ns)) ≡ length (joined (take i ns)) + 1 + length (decimal (getD ns i 0))
 joined-longer ns i p h = ap length (joined-more ns i p h) ∙ simp length-append
 
 -- and no shorter where there are more of them
@@ -61,9 +61,9 @@ joined-next [] (suc j) = omega arith
 joined-next (n ∷ ns) zero = omega arith
 joined-next (n ∷ []) (suc zero) = omega arith
 joined-next (n ∷ []) (suc (suc j)) = omega arith
-joined-next (n ∷ m ∷ ns) (suc zero) = omega (arith, length-append (digits n) (comma ∷ digits m))
+joined-next (n ∷ m ∷ ns) (suc zero) = omega (arith, length-append (decimal n) (comma ∷ decimal m))
 joined-next (n ∷ m ∷ ns) (suc (suc j)) =
-    omega (arith, length-append (digits n) (comma ∷ joined (m ∷ take j ns)), length-append (digits n) (comma ∷ joined (m ∷ take (suc j) ns)), joined-next (m ∷ ns) (suc j))
+    omega (arith, length-append (decimal n) (comma ∷ joined (m ∷ take j ns)), length-append (decimal n) (comma ∷ joined (m ∷ take (suc j) ns)), joined-next (m ∷ ns) (suc j))
 
 pub joined-rises : (ns : List ℕ) (i j : ℕ) → i ≤ j → length (joined (take i ns)) ≤ length (joined (take j ns))
 joined-rises ns i zero h = let e : i ≡ 0 = omega arith in rw e (le-refl (length (joined (take 0 ns))))
@@ -75,21 +75,21 @@ joined-rises ns i (suc j) h =
 
 -- ---- it has no byte 10
 comma-free : (l : List ℕ) → Free newline l → Free newline (comma ∷ l)
-comma-free l f = free-append newline (comma ∷ []) l (unfold before in refl) f
+comma-free l f = free-append newline (comma ∷ []) l (unfold indexOf in refl) f
 
 pub joined-free : (ns : List ℕ) → Free newline (joined ns)
 unfolding joined
-joined-free [] = unfold before in refl
+joined-free [] = unfold indexOf in refl
 joined-free (n ∷ []) = no-newline n
-joined-free (n ∷ m ∷ ns) = free-append newline (digits n) (comma ∷ joined (m ∷ ns)) (no-newline n) (comma-free (joined (m ∷ ns)) (joined-free (m ∷ ns)))
+joined-free (n ∷ m ∷ ns) = free-append newline (decimal n) (comma ∷ joined (m ∷ ns)) (no-newline n) (comma-free (joined (m ∷ ns)) (joined-free (m ∷ ns)))
 
 -- ---- how long it is, where each number has at most d characters
-pub joined-length : (d : ℕ) (ns : List ℕ) → ((i : ℕ) → i < length ns → length (digits (getD ns i 0)) ≤ d) → length (joined ns) ≤ (d + 1) * length ns
+pub joined-length : (d : ℕ) (ns : List ℕ) → ((i : ℕ) → i < length ns → length (decimal (getD ns i 0)) ≤ d) → length (joined ns) ≤ (d + 1) * length ns
 unfolding joined
 joined-length d [] h = omega arith
 joined-length d (n ∷ []) h = omega (arith, h 0 (omega arith))
 joined-length d (n ∷ m ∷ ns) h =
-    omega (arith, length-append (digits n) (comma ∷ joined (m ∷ ns)), h 0 (omega arith), joined-length d (m ∷ ns) (λ i l. h (suc i) (omega arith)))
+    omega (arith, length-append (decimal n) (comma ∷ joined (m ∷ ns)), h 0 (omega arith), joined-length d (m ∷ ns) (λ i l. h (suc i) (omega arith)))
 
 -- ---- numbers, each at most its limit
 abbrev pub Within : List ℕ → List ℕ → Type 0
@@ -128,12 +128,12 @@ read-back (n ∷ []) (m ∷ l ∷ limits) w = absurd (w .1)
 read-back (n ∷ k ∷ ns) (m ∷ []) w = absurd (w .1)
 read-back (n ∷ k ∷ ns) (m ∷ l ∷ limits) w =
     let rest : List ℕ = joined (k ∷ ns) in
-    let text : List ℕ = digits n ++ comma ∷ rest in
-    let end : before comma text ≡ length (digits n) = before-seam comma (digits n) rest (no-comma n) in
-    let inside : ltb (length (digits n)) (length text) ≡ true = lt-ltb (length (digits n)) (length text) (omega (arith, length-append (digits n) (comma ∷ rest))) in
-    let number : parsed 0 m (take (length (digits n)) text) ≡ N.Value n = ap (parsed 0 m) (take-append-seam (digits n) (comma ∷ rest)) ∙ read-digits 0 m n (omega arith) (w .0) in
-    let later : numbersIn (l ∷ limits) (drop (length (digits n) + 1) text) ≡ some (k ∷ ns) =
-    ap (numbersIn (l ∷ limits)) (drop-append-add (digits n) (comma ∷ rest) 1) ∙ read-back (k ∷ ns) (l ∷ limits) (w .1) in
+    let text : List ℕ = decimal n ++ comma ∷ rest in
+    let end : indexOf comma text ≡ length (decimal n) = before-seam comma (decimal n) rest (no-comma n) in
+    let inside : ltb (length (decimal n)) (length text) ≡ true = lt-ltb (length (decimal n)) (length text) (omega (arith, length-append (decimal n) (comma ∷ rest))) in
+    let number : parsed 0 m (take (length (decimal n)) text) ≡ N.Value n = ap (parsed 0 m) (take-append-seam (decimal n) (comma ∷ rest)) ∙ read-digits 0 m n (omega arith) (w .0) in
+    let later : numbersIn (l ∷ limits) (drop (length (decimal n) + 1) text) ≡ some (k ∷ ns) =
+    ap (numbersIn (l ∷ limits)) (drop-append-add (decimal n) (comma ∷ rest) 1) ∙ read-back (k ∷ ns) (l ∷ limits) (w .1) in
     rw (end, inside, number, later)
 
 -- ---- and nothing else is
@@ -157,21 +157,21 @@ written-back (m ∷ []) text ns e = by (parsed 0 m text) refl e
         let is : v ∷ [] ≡ ns = cc in
         rw (← is) (record { text-is = unfold joined in (s .text-is); within = (s .most, tt) })
 written-back (m ∷ l ∷ limits) text ns e =
-    by (ltb (before comma text) (length text)) (parsed 0 m (take (before comma text) text)) (numbersIn (l ∷ limits) (drop (before comma text + 1) text)) refl refl e
-    (λ vs. written-back (l ∷ limits) (drop (before comma text + 1) text) vs)
+    by (ltb (indexOf comma text) (length text)) (parsed 0 m (take (indexOf comma text) text)) (numbersIn (l ∷ limits) (drop (indexOf comma text + 1) text)) refl refl e
+    (λ vs. written-back (l ∷ limits) (drop (indexOf comma text + 1) text) vs)
   where
-    by : (t : Bool) (p : Number) (o : Option (List ℕ)) → ltb (before comma text) (length text) ≡ t → parsed 0 m (take (before comma text) text) ≡ p
-        → cond t (consNumber p o) none ≡ some ns → ((vs : List ℕ) → o ≡ some vs → Written (l ∷ limits) (drop (before comma text + 1) text) vs) → Written (m ∷ l ∷ limits) text ns
+    by : (t : Bool) (p : Number) (o : Option (List ℕ)) → ltb (indexOf comma text) (length text) ≡ t → parsed 0 m (take (indexOf comma text) text) ≡ p
+        → cond t (consNumber p o) none ≡ some ns → ((vs : List ℕ) → o ≡ some vs → Written (l ∷ limits) (drop (indexOf comma text + 1) text) vs) → Written (m ∷ l ∷ limits) text ns
     by false p o t q e rest = absurd (never e)
     by true N.Wrong o t q e rest = absurd (never e)
     by true (N.Value v) none t q e rest = absurd (never e)
     by true (N.Value v) (some vs) t q e rest =
-        let s : Spelt 0 m (take (before comma text) text) v = spelt 0 m _ v q in
-        let c : Written (l ∷ limits) (drop (before comma text + 1) text) vs = rest vs refl in
-        let inside : before comma text < length text = ltb-true _ _ t in
+        let s : Spelt 0 m (take (indexOf comma text) text) v = spelt 0 m _ v q in
+        let c : Written (l ∷ limits) (drop (indexOf comma text + 1) text) vs = rest vs refl in
+        let inside : indexOf comma text < length text = ltb-true _ _ t in
         let is : v ∷ vs ≡ ns = cc in
-        let whole : text ≡ digits v ++ comma ∷ joined vs =
-        split-at text (before comma text) 0 inside ∙ rw (found comma text inside, ← add-one (before comma text), s .text-is, ← c .text-is) in
+        let whole : text ≡ decimal v ++ comma ∷ joined vs =
+        split-at text (indexOf comma text) 0 inside ∙ rw (found comma text inside, ← add-one (indexOf comma text), s .text-is, ← c .text-is) in
         rw (← is)
         (record {
           text-is = whole ∙ sym (joined-cons v vs (omega (arith, within-length vs (l ∷ limits) (c .within))));

@@ -8,7 +8,7 @@ use native.Mathlib.Numerals.{add-one}
 use native.Mathlib.Omega.{arith}
 use lib.ListN.{length, take, getD, set, length-append}
 use lib.Seq.{sets, take-suc, take-length, length-take-le}
-use Rattle.text.specs.Text.{putting, after}
+use Rattle.text.specs.Workings.{putting, after}
 use Rattle.text.proofs.Fitting.{put-fits}
 
 -- ---- runs

@@ -6,12 +6,12 @@ ghost use lib.ListN.{length, replicate};
 ghost use lib.Seq.{sets};
 ghost use Rattle.text.specs.Decimal as D;
 ghost use Rattle.text.specs.Joined as J;
-ghost use Rattle.text.specs.Text as T;
+ghost use Rattle.text.specs.Workings as W;
 use crate::Number;
 
 // How many characters a number has.
 pub fn characters(n: u64) -> usize
-    ensures { λ r. ⌜ r ≡ length (D.digits n) ⌝ }
+    ensures { λ r. ⌜ r ≡ length (D.decimal n) ⌝ }
 {
     let mut count: usize = 1;
     let mut rest = n;
@@ -24,8 +24,8 @@ pub fn characters(n: u64) -> usize
 
 // Puts a number where there is room for it: the last character behind those of a tenth, so each is written once, in its place.
 fn put_digits(out: &mut [u8], at: usize, n: u64) -> usize
-    requires { ⌜ at + length (D.digits n) ≤ length (now out) ⌝ }
-    ensures { λ r. ⌜ (r ≡ at + length (D.digits n)) × (now (out .exit) ≡ sets (now (out .entry)) at (D.digits n)) ⌝ }
+    requires { ⌜ at + length (D.decimal n) ≤ length (now out) ⌝ }
+    ensures { λ r. ⌜ (r ≡ at + length (D.decimal n)) × (now (out .exit) ≡ sets (now (out .entry)) at (D.decimal n)) ⌝ }
 {
     if n < 10 {
         out[at] = b'0' + n as u8;
@@ -38,7 +38,7 @@ fn put_digits(out: &mut [u8], at: usize, n: u64) -> usize
 
 // Puts the characters of a number at a place and answers the place after them. Where they do not fit, nothing is put and the place stays.
 pub fn put_number(out: &mut [u8], at: usize, n: u64) -> usize
-    ensures { λ r. ⌜ (r ≡ T.after (now (out .entry)) at (D.digits n)) × (now (out .exit) ≡ T.putting (now (out .entry)) at (D.digits n)) ⌝ }
+    ensures { λ r. ⌜ (r ≡ W.after (now (out .entry)) at (D.decimal n)) × (now (out .exit) ≡ W.putting (now (out .entry)) at (D.decimal n)) ⌝ }
 {
     if out.len() < at {
         return at;
@@ -90,7 +90,7 @@ fn put_list(out: &mut [u8], at: usize, numbers: &[u64]) -> usize
 
 // Puts numbers, commas between, at a place, and answers the place after them; as `put_number` where they do not fit.
 pub fn put_joined(out: &mut [u8], at: usize, numbers: &[u64]) -> usize
-    ensures { λ r. ⌜ (r ≡ T.after (now (out .entry)) at (J.joined (now (numbers .entry)))) × (now (out .exit) ≡ T.putting (now (out .entry)) at (J.joined (now (numbers .entry)))) ⌝ }
+    ensures { λ r. ⌜ (r ≡ W.after (now (out .entry)) at (J.joined (now (numbers .entry)))) × (now (out .exit) ≡ W.putting (now (out .entry)) at (J.joined (now (numbers .entry)))) ⌝ }
 {
     if out.len() < at {
         return at;
@@ -103,7 +103,7 @@ pub fn put_joined(out: &mut [u8], at: usize, numbers: &[u64]) -> usize
 
 // Reads the numbers into the places of their limits. Where the text is wrong it stops, with numbers in front and limits behind.
 fn read_each(s: &[u8], numbers: &mut [u64]) -> bool
-    ensures { λ r. ⌜ J.answered r (now (numbers .exit)) ≡ J.numbersIn (now (numbers .entry)) (now (s .entry)) ⌝ }
+    ensures { λ r. ⌜ W.answered r (now (numbers .exit)) ≡ J.numbersIn (now (numbers .entry)) (now (s .entry)) ⌝ }
 {
     let count = numbers.len();
     if count == 0 {
@@ -141,7 +141,7 @@ fn clear(numbers: &mut [u64])
 // Reads as many numbers as the slice is long, commas between, and nothing else. The slice holds the most that each may be, and afterwards the numbers; 0 everywhere where the
 // text is wrong.
 pub fn read_joined(s: &[u8], numbers: &mut [u64]) -> bool
-    ensures { λ r. ⌜ (r ≡ J.isSome (J.numbersIn (now (numbers .entry)) (now (s .entry)))) × (now (numbers .exit) ≡ J.orZeros (length (now (numbers .entry))) (J.numbersIn (now (numbers .entry)) (now (s .entry)))) ⌝ }
+    ensures { λ r. ⌜ (r ≡ W.isSome (J.numbersIn (now (numbers .entry)) (now (s .entry)))) × (now (numbers .exit) ≡ W.orZeros (length (now (numbers .entry))) (J.numbersIn (now (numbers .entry)) (now (s .entry)))) ⌝ }
 {
     if read_each(s, numbers) {
         return true;

@@ -4,7 +4,7 @@ ghost use Prim.Native.Nat.{_+_};
 ghost use lib.ListN.{drop};
 ghost use Rattle.text.specs.Decimal as D;
 ghost use Rattle.text.specs.Line as L;
-ghost use Rattle.text.specs.Text as T;
+ghost use Rattle.text.specs.Workings as W;
 
 mod joined;
 
@@ -88,7 +88,7 @@ pub fn parse(s: &[u8], low: u64, high: u64) -> Number
 
 // Puts bytes at a place and answers the place after them. Where they do not fit, nothing is put and the place stays.
 pub fn put(out: &mut [u8], at: usize, bytes: &[u8]) -> usize
-    ensures { λ r. ⌜ (r ≡ T.after (now (out .entry)) at (now (bytes .entry))) × (now (out .exit) ≡ T.putting (now (out .entry)) at (now (bytes .entry))) ⌝ }
+    ensures { λ r. ⌜ (r ≡ W.after (now (out .entry)) at (now (bytes .entry))) × (now (out .exit) ≡ W.putting (now (out .entry)) at (now (bytes .entry))) ⌝ }
 {
     if out.len() < at {
         return at;
@@ -104,7 +104,7 @@ pub fn put(out: &mut [u8], at: usize, bytes: &[u8]) -> usize
 
 // The place of the first byte x from a place on, or the slice's length (the place itself where it is past the end).
 pub fn find(s: &[u8], from: usize, x: u8) -> usize
-    ensures { λ r. ⌜ r ≡ from + L.before x (drop from (now (s .entry))) ⌝ }
+    ensures { λ r. ⌜ r ≡ from + L.indexOf x (drop from (now (s .entry))) ⌝ }
 {
     let mut i = from;
     while i < s.len() {

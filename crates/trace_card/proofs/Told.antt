@@ -8,7 +8,7 @@ use lib.IntN.{ℤ}
 use Rattle.figure.specs.declared.Bounded.{Bounded}
 use Rattle.header.specs.declared.Details.{Details}
 use Rattle.header.specs.Refusals.{detailsOf}
-use Rattle.figure.specs.Figure.{toldBound}
+use Rattle.figure.specs.Bounding.{asBounding}
 use Rattle.card.specs.declared.Reached.{Reached}
 use Rattle.card.specs.declared.Written.{Written}
 use Rattle.card.specs.Reading as R
@@ -23,17 +23,17 @@ pub details-same : (d e : Details) → d ≡ e → (r size figure : ℕ) (a plan
 details-same d e q r size figure a plan x y = (x ∙ ap (λ (z : Details). z .number) q, y ∙ ap (λ (z : Details). numbers z size figure plan) q)
 
 pub written-told : (w : Written) (d : Details) → d ≡ detailsOf (w .refusal) → (r : ℕ) (a : List ℕ) (qs vs : List ℤ) (out : List ℕ)
-    → r ≡ d .number → a ≡ numbers d (w .length) 0 nothing → wrote r a qs vs out ≡ writtenAs (W.told w qs vs out)
+    → r ≡ d .number → a ≡ numbers d (w .length) 0 nothing → wrote r a qs vs out ≡ writtenAs (W.asWriting w qs vs out)
 written-told w d e r a qs vs out x y =
     let s = details-same d (detailsOf (w .refusal)) e r (w .length) 0 a nothing x y in
     λ i. wrote (s .0 i) (s .1 i) qs vs out
 
 pub reached-told : (t : Reached) (r : ℕ) (a : List ℕ) (qs vs : List ℤ) → r ≡ detailsOf (t .refusal) .number
-    → a ≡ numbers (detailsOf (t .refusal)) 0 (t .figure) (t .plan .planes) → left r a qs vs ≡ readAs (R.told t qs vs)
+    → a ≡ numbers (detailsOf (t .refusal)) 0 (t .figure) (t .plan .planes) → left r a qs vs ≡ readAs (R.asReading t qs vs)
 reached-told t r a qs vs x y = λ i. left (x i) (y i) qs vs
 
 pub bounded-told : (b : Bounded) (d : Details) → d ≡ detailsOf (b .refusal) → (r : ℕ) (a plan shown : List ℕ)
-    → shown ≡ cond (eqb (d .number) 0) plan nothing → r ≡ d .number → a ≡ numbers d 0 (b .figure) shown → asked r a ≡ boundedAs (toldBound b) plan
+    → shown ≡ cond (eqb (d .number) 0) plan nothing → r ≡ d .number → a ≡ numbers d 0 (b .figure) shown → asked r a ≡ boundedAs (asBounding b) plan
 bounded-told b d e r a plan shown p x y =
     let f = detailsOf (b .refusal) in
     let s = details-same d f e r 0 (b .figure) a shown x y in
@@ -42,5 +42,5 @@ bounded-told b d e r a plan shown p x y =
     λ i. asked (s .0 i) (all i)
 
 pub planned-told : (p : Planned) (r : ℕ) (a : List ℕ) → r ≡ detailsOf (p .refusal) .number
-    → a ≡ numbers (detailsOf (p .refusal)) (p .cells) (p .figure) (p .plan .planes) → asked r a ≡ plannedAs (N.told p)
+    → a ≡ numbers (detailsOf (p .refusal)) (p .cells) (p .figure) (p .plan .planes) → asked r a ≡ plannedAs (N.asPlanning p)
 planned-told p r a x y = λ i. asked (x i) (y i)

@@ -12,7 +12,7 @@ use Rattle.header.specs.declared.Details.{Details}
 use Rattle.header.specs.declared.Plan.{Plan}
 use Rattle.header.specs.Refusals.{refusal}
 use Rattle.header.specs.Plan.{noPlan}
-use Rattle.figure.specs.Figure.{Bounding, bounding}
+use Rattle.figure.specs.Bounding.{Bounding, bounding}
 use Rattle.card.specs.Writing.{Writing, writing, badSizes}
 use Rattle.card.specs.Writing as W
 use Rattle.card.specs.Reading.{Reading, reading, showing}
@@ -73,12 +73,12 @@ module _ (xs : List ℤ) (rows cols levels curve step : ℕ) (qs vs : List ℤ) 
   writingBy =
       cond (eqb curve 0) (writing xs (sheetOf rows cols levels) Linear step qs vs out)
       (cond (eqb curve 1) (writing xs (sheetOf rows cols levels) Cubic step qs vs out)
-      (W.no xs (sheetOf rows cols levels) Linear step qs vs out (cond (badSizes rows cols) (refusal 1 0 0) (refusal 2 0 0))))
+      (W.notWritten xs (sheetOf rows cols levels) Linear step qs vs out (cond (badSizes rows cols) (refusal 1 0 0) (refusal 2 0 0))))
 
   unfoldable pub writeCall : List ℕ → AfterWriting
   writeCall answer =
       cond (answerable answer) (writtenAs writingBy)
-      (record { returned = 3; answer = answer; coefficients = qs; values = vs; output = out })
+      (wrote 3 answer qs vs out)
 
 -- ---- reading, showing and refining
 pub record AfterReading : Type 0 where
@@ -101,7 +101,7 @@ readAs r =
 
 module _ (qs vs : List ℤ) (answer : List ℕ) where
   abbrev pub unread : AfterReading
-  unread = record { returned = 3; answer = answer; coefficients = qs; values = vs }
+  unread = left 3 answer qs vs
 
   unfoldable pub readCall : List ℕ → List ℕ → AfterReading
   readCall card plan = cond (answerable answer) (cond (isPlan plan) (readAs (reading qs vs card (planOf plan))) unread) unread
@@ -122,7 +122,7 @@ abbrev pub asked : ℕ → List ℕ → AfterAsking
 asked r a = record { returned = r; answer = a }
 
 abbrev pub unasked : List ℕ → AfterAsking
-unasked answer = record { returned = 3; answer = answer }
+unasked answer = asked 3 answer
 
 -- "beside a refusal all but [0] to [2] are 0"
 abbrev pub boundedAs : Bounding → List ℕ → AfterAsking

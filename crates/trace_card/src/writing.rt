@@ -34,7 +34,7 @@ fn write_by(
     values: &mut [i64],
     output: &mut [u8],
 ) -> Written
-    ensures { λ r. ⌜ W.told r (now (coefficients .exit)) (now (values .exit)) (now (output .exit)) ≡ B.writingBy (now (samples .entry)) rows cols levels curve step (now (coefficients .entry)) (now (values .entry)) (now (output .entry)) ⌝ }
+    ensures { λ r. ⌜ W.asWriting r (now (coefficients .exit)) (now (values .exit)) (now (output .exit)) ≡ B.writingBy (now (samples .entry)) rows cols levels curve step (now (coefficients .entry)) (now (values .entry)) (now (output .entry)) ⌝ }
 {
     if curve == 0 {
         return card::write(

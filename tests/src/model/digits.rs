@@ -1,8 +1,8 @@
-//! "Digits": q = sum of digit_p × (-2)^p.
+//! Digits to the base -2 (docs/CARD.md, "Digits").
 
 /// Places run from 22 down to 0.
 pub const MOST_DIGITS: u64 = 23;
-/// "23 digits reach from -2,796,202 to 5,592,405."
+/// The ends of what so many digits reach.
 pub const LEAST_COEFFICIENT: i32 = -2_796_202;
 pub const GREATEST_COEFFICIENT: i32 = 5_592_405;
 
@@ -24,7 +24,7 @@ pub fn weight(place: u64) -> i64 {
     (-2_i64).pow(place as u32)
 }
 
-/// "the fewest digits that hold every q" (0 where all are 0 or there is none).
+/// The fewest digits that hold every one of these: 0 where all are 0, and where there is none.
 pub fn digits_needed(coefficients: &[i64]) -> u64 {
     coefficients
         .iter()

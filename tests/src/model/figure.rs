@@ -1,4 +1,4 @@
-//! "The figure": how far a shown value may stand from its sample.
+//! How far a value may stand from its sample (docs/CARD.md, "The figure").
 
 use super::header::{open, Opened};
 use super::plan::{check_plan, Plan};
@@ -6,12 +6,12 @@ use super::predict::Curve;
 use super::refusal::Refusal;
 use super::steps::width;
 
-/// "Dropping d digits loses at most loss(d) = 2^(d+1)/3 rounded down."
+/// The most that a coefficient is off where so many of its digits count as 0.
 pub fn loss(digits: u64) -> u64 {
     (1_u64 << (digits + 1)) / 3
 }
 
-/// "Linear: M stays M; cubic: 5M/4 rounded up."
+/// What an error becomes in a layer that is predicted from values so far off.
 pub fn carry(curve: Curve, standing: u64) -> u64 {
     match curve {
         Curve::Linear => standing,
@@ -24,13 +24,11 @@ pub fn carry(curve: Curve, standing: u64) -> u64 {
 pub fn standing_after(opened: &Opened, layer: usize, standing: u64, missing: u64) -> u64 {
     let own = loss(missing) * width(opened.step);
     if layer == 0 {
-        // "Start with loss × w of layer 0."
+        // Anchors are predicted from nothing, so there is nothing to carry.
         own
     } else if opened.points[layer] == 0 {
-        // "Empty layers change nothing."
         standing
     } else {
-        // "first carries what stands", "then adds its own loss × w"
         carry(opened.curve, standing) + own
     }
 }
@@ -41,12 +39,11 @@ pub fn figure_of(opened: &Opened, plan: &Plan) -> u64 {
     for (layer, &planes) in opened.planes.iter().enumerate() {
         standing = standing_after(opened, layer, standing, planes - plan[layer]);
     }
-    // "The figure is e plus the result."
     opened.step + standing
 }
 
-/// The figure of a plan. Its 9 is "a count above the header's or a place past the last
-/// not 0"; the planes need not be there.
+/// The figure of a plan. The plan is held against the header's counts: the planes need not be
+/// there.
 pub fn figure(card: &[u8], plan: &Plan) -> Result<u64, Refusal> {
     let opened = open(card)?;
     check_plan(plan, &opened.planes)?;

@@ -1,4 +1,4 @@
-//! The card's header: "seven lines, key=value, each ended by byte 10".
+//! The card's header, printed (docs/CARD.md, "The card") and opened ("Refusals").
 
 use super::digits::MOST_DIGITS;
 use super::planes::{cells_in, CELL_BYTES};
@@ -45,7 +45,7 @@ impl Opened {
     }
 }
 
-/// The "seven lines, key=value, each ended by byte 10, in this order".
+/// The seven lines with their ends.
 pub fn print(shape: Shape, curve: Curve, step: u64, planes: &[u64], cells: u64) -> Vec<u8> {
     let curve = match curve {
         Curve::Linear => "linear",
@@ -67,8 +67,8 @@ pub fn print(shape: Shape, curve: Curve, step: u64, planes: &[u64], cells: u64) 
         .collect()
 }
 
-/// "Decimal, no sign, no leading zero (zero is the one character 0)", at most `most`.
-/// A number too long for u64 fails to parse, so it is wrong and never wraps.
+/// A number written in the one right way, and at most `most`. One too long for u64 fails to
+/// parse, so it is wrong and never wraps.
 fn number(text: &[u8], most: u64) -> Option<u64> {
     let all_digits = !text.is_empty() && text.iter().all(u8::is_ascii_digit);
     let leading_zero = text.len() > 1 && text[0] == b'0';
@@ -84,7 +84,7 @@ fn keyed_number(line: &[u8], key: &str, most: u64) -> Option<u64> {
     number(line.strip_prefix(key.as_bytes())?, most)
 }
 
-/// "a size of 0 or above 8,192" is wrong on its own line.
+/// A size as its own line allows it; the product is looked at in line 2.
 fn size(line: &[u8], key: &str) -> Option<u64> {
     keyed_number(line, key, MOST_POINTS).filter(|&size| size > 0)
 }
@@ -113,7 +113,7 @@ fn planes_line(line: &[u8], points: &[u64]) -> Option<Vec<u64>> {
     (right_number && !empty_layer_has_planes).then_some(counts)
 }
 
-/// Takes the next line off the bytes. "Lines are taken in turn, 5 before 6 in each."
+/// Takes the next line off the bytes: 5 where it has no end, and only then 6.
 fn take_line<T>(
     rest: &mut &[u8],
     line_number: u64,
@@ -128,11 +128,10 @@ fn take_line<T>(
     check(line).ok_or(Refusal::with(refusal::HEADER_LINE, line_number))
 }
 
-/// "Opening a card, first step of every operation but writing."
+/// Opening a card, the first step of every call but writing.
 pub fn open(card: &[u8]) -> Result<Opened, Refusal> {
     let mut rest = card;
     let rows = take_line(&mut rest, 1, |line| size(line, "rows="))?;
-    // "the product of sizes to line 2"
     let cols = take_line(&mut rest, 2, |line| {
         size(line, "cols=").filter(|&cols| rows * cols <= MOST_POINTS)
     })?;
@@ -145,7 +144,6 @@ pub fn open(card: &[u8]) -> Result<Opened, Refusal> {
     })?;
     let points = Shape { rows, cols, levels }.layer_counts();
     let planes = take_line(&mut rest, 6, |line| planes_line(line, &points))?;
-    // "a wrong total to line 7"
     let total = cells_in(&planes, &points);
     let cells = take_line(&mut rest, 7, |line| {
         keyed_number(line, "cells=", total).filter(|&cells| cells == total)

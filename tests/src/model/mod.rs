@@ -1,4 +1,5 @@
-//! The model, one file for each idea of document 01.
+//! The model, one file for each idea of docs/CARD.md. It was written before that document, from
+//! the customer's request, and shares no code or structure with the proved side.
 
 pub mod digits;
 pub mod figure;

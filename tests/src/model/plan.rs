@@ -1,11 +1,11 @@
-//! "A plan is 13 numbers: planes loaded from the top for each layer, 0 past the last."
+//! Plans (docs/CARD.md, "Plans, reading, refining").
 
 use super::refusal::{self, Refusal};
 
 /// 1 + 2L layers with L at most 6.
 pub const MAX_LAYERS: usize = 13;
 
-/// Planes loaded from the top, for each layer.
+/// Planes loaded of each layer, from its top plane down; 0 past the last layer.
 pub type Plan = [u64; MAX_LAYERS];
 
 /// Refusal 9: a layer asks more than `most` has for it, or a place past the last

@@ -1,11 +1,11 @@
-//! "Planes": their bits, their cells, their order on the card, and which are whole.
+//! Planes: their bits and cells (docs/CARD.md, "Planes"), their order on the card and which are
+//! whole ("The card").
 
 use super::digits::MOST_DIGITS;
 use super::header::Opened;
 use super::plan::Plan;
 use super::refusal::{self, Refusal};
 
-/// "A plane fills whole cells of 32 bytes."
 pub const CELL_BYTES: u64 = 32;
 
 /// The cells of one plane of a layer with so many points: one bit a point.
@@ -33,7 +33,7 @@ pub struct Plane {
     pub cells: u64,
 }
 
-/// "p from 22 down to 0, and for each p every layer with P_k > p, layer 0 first."
+/// All planes of a card in card order: the high places first, and of each place the coarse layers.
 pub fn card_order(planes: &[u64], points: &[u64]) -> Vec<Plane> {
     let mut order = Vec::new();
     let mut first_cell = 0;
@@ -54,8 +54,7 @@ pub fn card_order(planes: &[u64], points: &[u64]) -> Vec<Plane> {
     order
 }
 
-/// The bytes of a plane: "Point i of a layer is, in each plane, the bit of weight
-/// 2^(i mod 8) in byte i/8 rounded down"; "spare bits are 0".
+/// The bytes of a plane with these digits of its points; spare bits are 0.
 pub fn bytes_of_plane(bits: &[bool]) -> Vec<u8> {
     let mut bytes = vec![0; (cells_of_plane(bits.len() as u64) * CELL_BYTES) as usize];
     for (i, _) in bits.iter().enumerate().filter(|(_, &bit)| bit) {
@@ -71,7 +70,7 @@ pub fn bits_of_plane(bytes: &[u8]) -> Vec<bool> {
         .collect()
 }
 
-/// "A plane is whole when all its cells are in the bytes given."
+/// Are all cells of the plane in the bytes given?
 pub fn is_whole(opened: &Opened, card: &[u8], plane: &Plane) -> bool {
     let bytes_there = (card.len() - opened.header_length) as u64;
     (plane.first_cell + plane.cells) * CELL_BYTES <= bytes_there
@@ -96,8 +95,7 @@ pub fn planes_of_plan(opened: &Opened, plan: &Plan) -> Vec<Plane> {
         .collect()
 }
 
-/// The digits that a whole plane gives the points of its layer, or refusal 8: it "has a
-/// spare bit set, or is its layer's top plane with no 1 (detail: layer)".
+/// The digits that a whole plane gives the points of its layer, or refusal 8 with its layer.
 pub fn digits_in_plane(opened: &Opened, card: &[u8], plane: &Plane) -> Result<Vec<bool>, Refusal> {
     let start = opened.header_length + (plane.first_cell * CELL_BYTES) as usize;
     let end = start + (plane.cells * CELL_BYTES) as usize;

@@ -1,4 +1,4 @@
-//! "Prediction": what a point is expected to be, from points rebuilt before it.
+//! What a point is expected to be, from points rebuilt before it (docs/CARD.md, "Prediction").
 
 use super::sheet::{Layer, Point, Shape};
 
@@ -8,13 +8,12 @@ pub enum Curve {
     Cubic,
 }
 
-/// "(-a + 9b + 9c - d) / 16, rounded towards minus infinity."
-/// For a divisor above 0, `div_euclid` is exactly that rounding.
+/// The prediction from all four neighbours. For a divisor above 0, `div_euclid` rounds down.
 pub fn cubic(a: i64, b: i64, c: i64, d: i64) -> i64 {
     (-a + 9 * b + 9 * c - d).div_euclid(16)
 }
 
-/// "(b + c) / 2, rounded the same way."
+/// The prediction from the two nearest.
 pub fn linear(b: i64, c: i64) -> i64 {
     (b + c).div_euclid(2)
 }
@@ -33,9 +32,7 @@ pub fn predict(values: &[i64], shape: Shape, curve: Curve, layer: Layer, point: 
             })]
         })
     };
-    // "a, b, c, d, which stand 3s before, s before, s after and 3s after it"
     let [a, b, c, d] = match layer {
-        // "An anchor is predicted as 0."
         Layer::Anchors { .. } => return 0,
         Layer::Across { s } => [-3, -1, 1, 3].map(|times| look(0, times * s as i64)),
         Layer::Down { s } => [-3, -1, 1, 3].map(|times| look(times * s as i64, 0)),
@@ -43,7 +40,6 @@ pub fn predict(values: &[i64], shape: Shape, curve: Curve, layer: Layer, point: 
     match (curve, a, b, c, d) {
         (Curve::Cubic, Some(a), Some(b), Some(c), Some(d)) => cubic(a, b, c, d),
         (_, _, Some(b), Some(c), _) => linear(b, c),
-        // "Otherwise b alone."
         (_, _, Some(b), None, _) => b,
         // An odd multiple of s is at least s, so b is always in the sheet.
         (_, _, None, _, _) => unreachable!("a point past the anchors has a point s before it"),

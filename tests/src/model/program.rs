@@ -1,11 +1,11 @@
-//! What "the program show" prints for the card on its standard input.
+//! What the program `show` prints for the card on its standard input (docs/CARD.md, "The calls").
 
 use super::header::open;
 use super::read::{show, Reached};
 use super::refusal::Refusal;
 
-/// The lines printed: sizes, planes used, figure, then a line of values per row; or, for
-/// a refused card, "one line, refused=number".
+/// The lines printed: sizes, planes loaded, figure, then a line of values for each row; or one
+/// line for a refused card.
 pub fn shown(card: &[u8]) -> String {
     match lines(card) {
         Ok(text) => text,

@@ -1,4 +1,4 @@
-//! "Reading and refining".
+//! Reading, showing and refining (docs/CARD.md, "Plans, reading, refining").
 
 use super::digits::{weight, GREATEST_COEFFICIENT, LEAST_COEFFICIENT};
 use super::figure::figure_of;
@@ -8,7 +8,7 @@ use super::planes::{card_order, digits_in_plane, planes_of_plan, whole_planes, P
 use super::refusal::{self, Refusal};
 use super::steps::rebuild;
 
-/// "They answer the plan reached and its figure."
+/// What these calls answer: the plan reached and its figure.
 #[derive(Clone, Copy, Debug, PartialEq, Eq)]
 pub struct Reached {
     pub plan: Plan,
@@ -67,7 +67,7 @@ fn read_whole_planes(
     coefficients: &mut [i32],
     values: &mut [i64],
 ) -> Result<Reached, Refusal> {
-    // "Missing digits count as 0."
+    // Digits that are not loaded count as 0.
     let mut found = vec![0; opened.shape().count()];
     let places = places_of_layers(opened);
     // In card order, so that the first plane found wrong is the one refused.
@@ -91,7 +91,7 @@ pub fn read(
     read_whole_planes(&opened, card, plan, coefficients, values)
 }
 
-/// "Showing a card is reading it with all its whole planes."
+/// Reads a card with all planes that are whole in the bytes.
 pub fn show(card: &[u8], coefficients: &mut [i32], values: &mut [i64]) -> Result<Reached, Refusal> {
     let opened = open(card)?;
     check_lengths(&opened, coefficients, values)?;
@@ -99,8 +99,7 @@ pub fn show(card: &[u8], coefficients: &mut [i32], values: &mut [i64]) -> Result
     read_whole_planes(&opened, card, &plan, coefficients, values)
 }
 
-/// "Refining adds the next plane of one layer to the coefficients, then rebuilds all
-/// values."
+/// Adds the next plane of one layer to the coefficients, and makes all values anew.
 pub fn refine(
     card: &[u8],
     plan: &Plan,
@@ -113,8 +112,8 @@ pub fn refine(
     let whole = whole_planes(&opened, card);
     check_plan(plan, &whole)?;
 
-    // "the layer asked for, which is the detail: past the last layer, or with no further
-    // plane, or its next plane not whole". The planes whole are never more than P_k.
+    // Past the last layer, or with no further plane that is whole: those that are whole are never
+    // more than P_k.
     let refused = Refusal::with(refusal::PLAN, layer);
     let k = usize::try_from(layer).map_err(|_| refused)?;
     let whole_of_layer = *whole.get(k).ok_or(refused)?;

@@ -1,10 +1,9 @@
-//! "The sheet and its layers": the shape, the layers, and their points in row order.
+//! The shape of a sheet (docs/CARD.md, "The sheet"), its layers and their points in row order
+//! ("Layers").
 
-/// "R × C at most 8,192."
 pub const MOST_POINTS: u64 = 8192;
-/// "Levels L: 0 to 6."
 pub const MOST_LEVELS: u64 = 6;
-/// "Readings are whole, from -1,048,575 to 1,048,575."
+/// The least is as far below 0.
 pub const LARGEST_SAMPLE: i32 = 1_048_575;
 
 #[derive(Clone, Copy, Debug, PartialEq, Eq)]
@@ -36,20 +35,17 @@ impl Layer {
     pub fn holds(self, point: Point) -> bool {
         let Point { row, col } = point;
         match self {
-            // "points whose row and column are multiples of 2^L"
             Layer::Anchors { multiple } => {
                 row.is_multiple_of(multiple) && col.is_multiple_of(multiple)
             }
-            // "across: row a multiple of 2s, column an odd multiple of s"
             Layer::Across { s } => row.is_multiple_of(2 * s) && is_odd_multiple(col, s),
-            // "down: row an odd multiple of s, column a multiple of s"
             Layer::Down { s } => is_odd_multiple(row, s) && col.is_multiple_of(s),
         }
     }
 }
 
 impl Shape {
-    /// All points, "in row order from row 0, column 0".
+    /// All points, in row order.
     pub fn points(self) -> impl Iterator<Item = Point> {
         (0..self.rows).flat_map(move |row| (0..self.cols).map(move |col| Point { row, col }))
     }
@@ -64,12 +60,11 @@ impl Shape {
         (point.row * self.cols + point.col) as usize
     }
 
-    /// The "1 + 2L layers, numbered from 0".
+    /// The layers, the coarsest first.
     pub fn layers(self) -> Vec<Layer> {
         let mut layers = vec![Layer::Anchors {
             multiple: 1 << self.levels,
         }];
-        // "for s = 2^(L-1) down to 1 come two layers"
         for power in (0..self.levels).rev() {
             let s = 1 << power;
             layers.push(Layer::Across { s });
@@ -78,12 +73,12 @@ impl Shape {
         layers
     }
 
-    /// "A layer's points stand in row order."
+    /// The points of a layer, in row order.
     pub fn points_of(self, layer: Layer) -> Vec<Point> {
         self.points().filter(|&point| layer.holds(point)).collect()
     }
 
-    /// The number of points of each layer; "some may be empty".
+    /// The number of points of each layer; some may have none.
     pub fn layer_counts(self) -> Vec<u64> {
         self.layers()
             .into_iter()

@@ -1,4 +1,4 @@
-//! Writing a card.
+//! Writing a card (docs/CARD.md, "The calls").
 
 use super::digits::{digits_needed, digits_of};
 use super::header::print;
@@ -8,11 +8,10 @@ use super::refusal::{self, Refusal};
 use super::sheet::{Shape, LARGEST_SAMPLE, MOST_LEVELS, MOST_POINTS};
 use super::steps::{coefficient, rebuilt, LARGEST_STEP};
 
-/// "output under 32,768 bytes"
+/// The room that the output has to have.
 pub const OUTPUT_BYTES: usize = 32_768;
 
-/// Refusal 1, "R or C is 0 or their product above 8,192"; a product too large for u64
-/// is above it too.
+/// Refusal 1. A product too large for u64 is too many points too.
 fn check_size(rows: u64, cols: u64) -> Result<(), Refusal> {
     let points = rows.checked_mul(cols);
     match points {
@@ -21,7 +20,7 @@ fn check_size(rows: u64, cols: u64) -> Result<(), Refusal> {
     }
 }
 
-/// Refusal 4, "details: row and column of the first one in row order".
+/// Refusal 4, with the row and column of the first sample out of range.
 fn check_samples(shape: Shape, samples: &[i32]) -> Result<(), Refusal> {
     let range = -LARGEST_SAMPLE..=LARGEST_SAMPLE;
     let wrong = shape
@@ -37,7 +36,7 @@ fn check_samples(shape: Shape, samples: &[i32]) -> Result<(), Refusal> {
 }
 
 /// Writes the card to the front of the output and answers its length.
-// The arguments are the call's own, as document 01 lists them.
+// The arguments are the call's own.
 #[allow(clippy::too_many_arguments)]
 pub fn write(
     samples: &[i32],
@@ -67,11 +66,11 @@ pub fn write(
         let mut of_layer = Vec::new();
         for point in shape.points_of(layer) {
             let place = shape.place(point);
-            // "The writer predicts from rebuilt values, never from readings."
+            // From rebuilt values, as a reader has to, and never from samples.
             let prediction = predict(values, shape, curve, layer, point);
             let q = coefficient(i64::from(samples[place]), prediction, step);
             values[place] = rebuilt(prediction, q, step);
-            // 23 digits are "enough for every accepted sheet", and they fit i32.
+            // 23 digits are enough for every sheet that is accepted, and they fit i32.
             coefficients[place] = i32::try_from(q).expect("a coefficient fits 23 digits");
             of_layer.push(q);
         }
@@ -94,7 +93,6 @@ pub fn write(
             .collect();
         card.extend(bytes_of_plane(&bits));
     }
-    // "the card at the front of the output; later bytes are untouched"
     output[..card.len()].copy_from_slice(&card);
     Ok(card.len() as u64)
 }

@@ -36,7 +36,7 @@ pub struct Written {
     pub card: Vec<u8>,
 }
 
-/// The steps named in document 01, and others of every size.
+/// The ends of the range of steps, and others of every size.
 pub fn step(random: &mut Random) -> u64 {
     match random.below(6) {
         0 => 0,

@@ -1,18 +1,19 @@
-//! The card of "Worked on the bench", put together by hand, and what document 01 says of it.
+//! The bench card (docs/CARD.md, "Worked examples"), put together by hand, and what is said of it
+//! there.
 
 use super::{card_of, plan};
 use trace_card_tests::model::{Planned, Reached};
 
-/// "1 by 5, L 1, linear, e 1, readings 10 13 11 20 30".
+/// One row; one level, linear, step 1.
 pub const SAMPLES: [i32; 5] = [10, 13, 11, 20, 30];
 
-/// "coefficients 3 4 10 (anchors) and 1 0": the anchors stand in columns 0, 2 and 4.
+/// The anchors stand in columns 0, 2 and 4.
 pub const COEFFICIENTS: [i32; 5] = [3, 1, 4, 0, 10];
 
-/// "rebuilt 9 13 12 21 30".
+/// As rebuilt.
 pub const VALUES: [i64; 5] = [9, 13, 12, 21, 30];
 
-/// Its lines without their ends: "planes=5,1,0, cells=6".
+/// Its lines without their ends.
 pub const LINES: [&[u8]; 7] = [
     b"rows=1",
     b"cols=5",
@@ -23,10 +24,9 @@ pub const LINES: [&[u8]; 7] = [
     b"cells=6",
 ];
 
-/// "first bytes of its planes 4 4 7 5 1 1"; each plane is one cell.
+/// The first bytes of its planes, each of one cell.
 pub const CELLS: [u8; 6] = [4, 4, 7, 5, 1, 1];
 
-/// "header 64 bytes, card 256".
 pub const HEADER_BYTES: usize = 64;
 pub const CARD_BYTES: usize = 256;
 
@@ -48,9 +48,8 @@ pub struct Shown {
     pub values: [i64; 5],
 }
 
-/// "its first 160 bytes: planes 3,0,0, values 12 12 12 24 36, figure 10. 159 bytes: 2,0,0,
-/// figure 19. 64 bytes: no planes, figure 67." Without planes every value is 0; with all of them
-/// the values are the rebuilt ones and the figure is the step.
+/// Whole, with three planes, with two and with none. Without planes every value is 0; with all of
+/// them the values are the rebuilt ones and the figure is the step.
 ///
 /// The values of 2,0,0 are not said. By hand: the two planes loaded are those of layer 0 at the
 /// places 4 and 3, whose weights are 16 and -8. Both have the first byte 4 = 2^2, so the anchors 0
@@ -83,8 +82,7 @@ fn planned(first: &[u64], cells: u64, figure: u64) -> Planned {
     }
 }
 
-/// "limit 10: 3,0,0 in 3 cells. Limit 9: 4,0,0 in 4 cells, figure 7 (3,1,0 ties). Limit 1: all
-/// 6 cells." The figures that are not said here are those of the cuts above.
+/// Limits and what planning answers. Figures that are not said there are those of the cuts above.
 pub fn planned_by_limit() -> [(u64, Planned); 3] {
     [
         (10, planned(&[3], 3, 10)),
@@ -93,7 +91,7 @@ pub fn planned_by_limit() -> [(u64, Planned); 3] {
     ]
 }
 
-/// "5 cells: 5,0,0, figure 4."
+/// Numbers of cells and what planning answers.
 pub fn planned_by_cells() -> [(u64, Planned); 1] {
     [(5, planned(&[5], 5, 4))]
 }

@@ -1,11 +1,14 @@
-//! Cards put together by hand, and second ways of getting what the model says, written apart
-//! from it.
+//! Cards put together by hand, second ways of getting what the model says, written apart from
+//! it, and the project's files and its document.
 
 // Each test file uses some of these.
 #![allow(dead_code)]
 
 pub mod bench;
+pub mod document;
+pub mod files;
 
+use trace_card_tests::model::digits::digits_of;
 use trace_card_tests::model::{Curve, Opened, Plan, Refusal, MAX_LAYERS};
 
 pub fn refusal(number: u64, details: [u64; 2]) -> Refusal {
@@ -17,6 +20,12 @@ pub fn plan(first: &[u64]) -> Plan {
     let mut plan = [0; MAX_LAYERS];
     plan[..first.len()].copy_from_slice(first);
     plan
+}
+
+/// The digits of a coefficient, highest first.
+pub fn highest_first(q: i64) -> String {
+    let digits = digits_of(q).into_iter().rev();
+    digits.map(|digit| digit.to_string()).collect()
 }
 
 /// The seven lines of a header, without their ends.
@@ -173,8 +182,8 @@ pub fn every_plan(opened: &Opened) -> Vec<Plan> {
     plans
 }
 
-/// Does the first plan come before the second in the last of the ties: "from the last
-/// layer backwards, fewer planes"?
+/// Does the first plan come before the second by the last of the rules: from the last layer
+/// backwards, fewer planes?
 pub fn fewer_backwards(first: &Plan, second: &Plan) -> bool {
     for layer in (0..MAX_LAYERS).rev() {
         if first[layer] != second[layer] {

@@ -1,4 +1,4 @@
-//! The calls of "Worked on the bench", by both.
+//! The bench card and the ends (docs/CARD.md, "Worked examples"), by both.
 
 use super::both::{figure, plan_by_cells, plan_by_limit, read, refine, show, write, Slices};
 use super::common::{bench, plan, refusal};
@@ -77,8 +77,6 @@ fn its_plans() {
     }
 }
 
-/// "8,192 points pass, 8,193 give 1. Step 65,535 passes, 65,536 gives 2. Reading 1,048,576
-/// gives 4."
 #[test]
 fn the_limits() {
     let flat = |rows: u64, cols: u64, step| {

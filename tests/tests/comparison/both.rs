@@ -94,7 +94,7 @@ pub fn write(case: &Case, lengths: [usize; 2], output: usize) -> Result<Vec<u8>,
     Ok(memory.output)
 }
 
-/// Writing in slices as long as document 01 asks; the case must be accepted.
+/// Writing in slices of the right lengths; the case must be accepted.
 pub fn written(case: &Case) -> Vec<u8> {
     write(case, [case.count(); 2], OUTPUT_BYTES).expect("an accepted sheet is written")
 }

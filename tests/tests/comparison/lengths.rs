@@ -118,8 +118,7 @@ fn several_slices_at_once() {
     }
 }
 
-/// "curve is 0 for linear and 1 for cubic; any other number is refusal 2", so after 1 and
-/// before 3.
+/// A curve other than 0 and 1 is refusal 2, so it comes after 1 and before 3.
 #[test]
 fn curves() {
     for curve in [0, 1, 2, 3, 255, 256, 1 << 32, (1 << 32) + 1, u64::MAX] {

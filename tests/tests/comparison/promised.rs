@@ -40,7 +40,7 @@ pub fn planned(result: Result<Planned, Refusal>) -> [u64; ANSWER] {
 /// What include/trace_card.h promises of the call.
 pub fn promised(call: Call, memory: &Memory) -> Left {
     let mut left = memory.clone();
-    // "Where answer is not 24 long, or plan not 13, a function returns 3 and writes nothing."
+    // The lengths of answer and plan come before all else, and nothing is written.
     if memory.answer.len() != ANSWER {
         return (3, left);
     }
@@ -58,7 +58,7 @@ pub fn promised(call: Call, memory: &Memory) -> Left {
             },
             _,
         ) => {
-            // "any other number is refusal 2", as levels above 6 are.
+            // Another curve is refused as levels above 6 are.
             let (curve, levels) = match curve {
                 0 => (Curve::Linear, levels),
                 1 => (Curve::Cubic, levels),

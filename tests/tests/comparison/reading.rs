@@ -54,7 +54,7 @@ fn cuts_of_the_largest_cards() {
 }
 
 /// Every group of eight digits, as the lowest, the middle and the highest of a coefficient, on a card made by hand: the
-/// coefficients are the sums of their digits, one by one (document 02, card 2).
+/// coefficients are the sums of their digits, one by one (docs/CARD.md, "Plans, reading, refining").
 #[test]
 fn every_group_of_eight_digits() {
     let words: Vec<u32> = (0..256)

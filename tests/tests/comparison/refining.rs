@@ -8,9 +8,9 @@ use trace_card_tests::random::plans::plan_within;
 use trace_card_tests::random::sheets::Kind;
 use trace_card_tests::random::Random;
 
-/// Refines in turn from a reading of no planes. "In a list of refinements each call takes the
-/// plan and the slices that the last accepted call left." Afterwards all is as one reading with
-/// the planes reached leaves it. Answers how many calls were accepted.
+/// Refines in turn from a reading of no planes, each call with the plan and the slices that the
+/// last accepted one left. Afterwards all is as one reading with the planes reached leaves it.
+/// Answers how many calls were accepted.
 fn refine_in_turn(random: &mut Random, card: &[u8], points: usize, calls: usize) -> usize {
     let mut slices = Slices::new(points);
     let mut plan: Plan = [0; PLAN];

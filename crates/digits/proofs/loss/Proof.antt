@@ -4,7 +4,7 @@ use mathlib.Core.Path.{_≡_, ap}
 use Prim.Native.Nat.{min}
 use native.Mathlib.Omega.{arith}
 use Rattle.digits.specs.Digits as D
-use Rattle.digits.specs.Digits.{digitsMost}
+use Rattle.digits.specs.Workings.{digitsMost}
 use Rattle.digits.proofs.Losses.{loss-shifted}
 use Rattle.digits.proofs.loss.Statement.{statement}
 use Rattle.digits.proofs.loss.Tie as tie

@@ -1,7 +1,7 @@
 -- The call decides the first half of the condition.
 use mathlib.Core.Path.{sym, _∙_}
 use borrow.Author.Needs.{needs}
-use Rattle.layers.specs.Calls.{settled}
+use Rattle.layers.specs.Workings.Calls.{settled}
 use Rattle.layers.proofs.settled.Statement.{statement}
 use Rattle.layers.proofs.settled.Tie as tie
 

@@ -11,8 +11,9 @@ use borrow.Author.Tests.{not-true, not-false, lt-ltb, le-ltb}
 use Rattle.sheet.specs.Limits.{layersMost}
 use Rattle.sheet.specs.Sheet.{layers}
 use Rattle.header.specs.Header.{planeCells}
-use Rattle.header.specs.Opening.{right}
-use Rattle.order.specs.CardOrder.{cellsBefore, cellsThrough, cellsBeforeIn}
+use Rattle.header.specs.Opening.{wellFormed}
+use Rattle.order.specs.CardOrder.{cellsBefore}
+use Rattle.order.specs.Workings.{cellsThrough, cellsBeforeIn}
 use Rattle.header.proofs.Rightness.{Right, right-yes, counts-past}
 use Rattle.header.proofs.Cells.{cells-there, span-listed}
 use Rattle.order.proofs.CardOrder.{cells-through}
@@ -23,8 +24,8 @@ use Rattle.order.proofs.cells_before.Tie as tie
 abbrev S : tie.Else1 → tie.Start
 S e = e .before .before
 
-is-so : (e : tie.Else1) → right (S e .args .header) ≡ true
-is-so e = sym (e .before .is-right .ensures) ∙ not-false _ (e .if1 .left)
+is-so : (e : tie.Else1) → wellFormed (S e .args .header) ≡ true
+is-so e = sym (e .before .is-well-formed .ensures) ∙ not-false _ (e .if1 .left)
 
 rightly : (e : tie.Else1) → Right (S e .args .header)
 rightly e = right-yes (S e .args .header) (is-so e)
@@ -63,12 +64,12 @@ own-is c =
     ∙ span-listed (h .shape) k (c .before .before .before .if2 .left)
     ∙ cells-there (h .shape) (rightly e .shape) k (inside (c .before .before))
 
-is-right-requires : tie.Need-is-right-requires
-is-right-requires c κs = search needs
+is-well-formed-requires : tie.Need-is-well-formed-requires
+is-well-formed-requires c κs = search needs
 
 returns : tie.Need-returns
 unfolding cellsBeforeIn
-returns c = let none : right (c .before .before .args .header) ≡ false = sym (c .before .is-right .ensures) ∙ not-true _ (c .if1 .taken) in rw none
+returns c = let none : wellFormed (c .before .before .args .header) ≡ false = sym (c .before .is-well-formed .ensures) ∙ not-true _ (c .if1 .taken) in rw none
 
 returns-2 : tie.Need-returns-2
 unfolding cellsBeforeIn
@@ -113,7 +114,7 @@ pub cells-before-spec : {M : Type 1} → statement M
 cells-before-spec =
     tie.close
     (tie.spec
-    is-right-requires
+    is-well-formed-requires
     returns
     returns-2
     mul-if3

@@ -10,8 +10,9 @@ use lib.Dec.{ltb}
 use lib.ListN.{getD}
 use Rattle.sheet.specs.Limits.{layersMost}
 use Rattle.sheet.specs.Lists.{total}
-use Rattle.header.specs.Header.{placesMost, planeCellsMost}
-use Rattle.order.specs.CardOrder.{cellsThrough}
+use Rattle.header.specs.Header.{placesMost}
+use Rattle.header.specs.Workings.{planeCellsMost}
+use Rattle.order.specs.Workings.{cellsThrough}
 use Rattle.header.proofs.Totals.{total-suc}
 use Rattle.order.proofs.Through.{share, share-most, shares-most}
 use Rattle.order.proofs.cells_through.Statement.{statement}

@@ -3,7 +3,7 @@ use Prim.Native.Nat.{_≤_, _-_}
 use mathlib.Core.Path.{_≡_}
 use native.Mathlib.Omega.{arith}
 use Rattle.sheet.specs.Limits.{layersMost}
-use Rattle.order.specs.CardOrder.{Walked}
+use Rattle.order.specs.Workings.{Walked}
 use Rattle.order.proofs.Walk.{cells-on, found-on, walk-on}
 use Rattle.order.proofs.whole_at.Statement.{statement}
 use Rattle.order.proofs.whole_at.Tie as tie

@@ -10,9 +10,11 @@ use borrow.Author.Needs.{needs}
 use borrow.Author.Tests.{not-true, not-false}
 use Rattle.sheet.specs.Limits.{layersMost}
 use Rattle.sheet.specs.Lists.{tabulate}
-use Rattle.header.specs.Header.{cellBytes, spansOf}
-use Rattle.header.specs.Opening.{right}
-use Rattle.order.specs.CardOrder.{whole, wholeIn, Walked}
+use Rattle.header.specs.Header.{cellBytes}
+use Rattle.header.specs.Workings.{spansOf}
+use Rattle.header.specs.Opening.{wellFormed}
+use Rattle.order.specs.CardOrder.{whole}
+use Rattle.order.specs.Workings.{wholeIn, Walked}
 use Rattle.header.proofs.Fills.{filled-all}
 use Rattle.header.proofs.Rightness.{Right, right-yes}
 use Rattle.order.proofs.Through.{Small, header-small, within-whole}
@@ -29,8 +31,8 @@ abbrev μ-loop : tie.MeasureT-loop
 abbrev S : tie.Else1 Inv-loop μ-loop → tie.Start Inv-loop μ-loop
 S e = e .before .before
 
-is-so : (e : tie.Else1 Inv-loop μ-loop) → right (S e .args .header) ≡ true
-is-so e = sym (e .before .is-right .ensures) ∙ not-false _ (e .if1 .left)
+is-so : (e : tie.Else1 Inv-loop μ-loop) → wellFormed (S e .args .header) ≡ true
+is-so e = sym (e .before .is-well-formed .ensures) ∙ not-false _ (e .if1 .left)
 
 rightly : (e : tie.Else1 Inv-loop μ-loop) → Right (S e .args .header)
 rightly e = right-yes (S e .args .header) (is-so e)
@@ -41,12 +43,12 @@ long s = search needs
 small : (w : tie.After-spans Inv-loop μ-loop) → Small (w .spans .result) (S (w .before) .args .header .planes)
 small w = rw (w .spans .ensures) (header-small (S (w .before) .args .header) (rightly (w .before)) (long (S (w .before))))
 
-is-right-requires : tie.Need-is-right-requires Inv-loop μ-loop
-is-right-requires c κs = tt
+is-well-formed-requires : tie.Need-is-well-formed-requires Inv-loop μ-loop
+is-well-formed-requires c κs = tt
 
 returns : tie.Need-returns Inv-loop μ-loop
 unfolding wholeIn
-returns c = let no : right (c .before .before .args .header) ≡ false = sym (c .before .is-right .ensures) ∙ not-true _ (c .if1 .taken) in rw no
+returns c = let no : wellFormed (c .before .before .args .header) ≡ false = sym (c .before .is-well-formed .ensures) ∙ not-true _ (c .if1 .taken) in rw no
 
 spans-requires : tie.Need-spans-requires Inv-loop μ-loop
 spans-requires c κs = tt
@@ -88,7 +90,7 @@ whole-planes-spec =
     (tie.spec
     Inv-loop
     μ-loop
-    is-right-requires
+    is-well-formed-requires
     returns
     spans-requires
     loop-holds

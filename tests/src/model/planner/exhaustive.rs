@@ -5,8 +5,8 @@ use crate::model::figure::figure_of;
 use crate::model::header::Opened;
 use crate::model::plan::{Plan, MAX_LAYERS};
 
-/// How many plans the card has: "a plan of a card loads at most P_k planes of layer k".
-/// At most 24^13, which fits u64.
+/// How many plans the card has: any number of planes from 0 to P_k for each layer. At most
+/// 24^13, which fits u64.
 pub fn plans_of(opened: &Opened) -> u64 {
     opened.planes.iter().map(|&planes| planes + 1).product()
 }

@@ -1,4 +1,4 @@
-//! "The planner": it works from the header alone, "as if every plane were there".
+//! Planning (docs/CARD.md, "The planner"): it goes by the header alone.
 //!
 //! Two methods answer the same question. Trying every plan is the definition itself; the
 //! front serves cards with too many plans for that.
@@ -17,7 +17,7 @@ use super::refusal::{self, Refusal};
 /// With at most this many plans, every plan is tried.
 pub const MOST_PLANS_TRIED: u64 = 4096;
 
-/// What planning answers: "the plan, its cells and its figure".
+/// What planning answers.
 #[derive(Clone, Copy, Debug, PartialEq, Eq)]
 pub struct Planned {
     pub plan: Plan,
@@ -28,9 +28,9 @@ pub struct Planned {
 /// What is asked of the planner.
 #[derive(Clone, Copy, Debug, PartialEq, Eq)]
 pub enum Goal {
-    /// "By limit E: fewest cells with figure at most E."
+    /// The fewest cells with a figure of at most this.
     Limit(u64),
-    /// "By cells: smallest figure in at most that many cells, then fewest cells."
+    /// The smallest figure in at most so many cells, and of those the fewest cells.
     Cells(u64),
 }
 
@@ -43,8 +43,7 @@ impl Goal {
         }
     }
 
-    /// The plan with the least rank is the one answered. "Ties: smaller figure, then, from
-    /// the last layer backwards, fewer planes."
+    /// The plan with the least rank is the one answered.
     pub fn rank(self, planned: &Planned) -> (u64, u64, [u64; MAX_LAYERS]) {
         let Planned {
             plan,
@@ -65,7 +64,7 @@ fn backwards(plan: &Plan) -> [u64; MAX_LAYERS] {
     turned
 }
 
-/// "its cells are those of all the planes it loads"
+/// The cells of all planes that a plan loads.
 pub fn cells_of_plan(opened: &Opened, plan: &Plan) -> u64 {
     cells_in(&plan[..opened.planes.len()], &opened.points)
 }
@@ -78,13 +77,13 @@ fn best(opened: &Opened, goal: Goal) -> Option<Planned> {
     }
 }
 
-/// Planning by limit. Its own refusal is "10, E below e, that is, no plan meets it".
+/// Planning by limit. It is refused where no plan meets the limit.
 pub fn plan_by_limit(card: &[u8], limit: u64) -> Result<Planned, Refusal> {
     let opened = open(card)?;
     best(&opened, Goal::Limit(limit)).ok_or(Refusal::plain(refusal::LIMIT))
 }
 
-/// Planning by cells, "never refused over the number asked": the plan of no planes fits.
+/// Planning by cells. The number asked for is never refused: the plan of no planes fits.
 pub fn plan_by_cells(card: &[u8], cells: u64) -> Result<Planned, Refusal> {
     let opened = open(card)?;
     Ok(best(&opened, Goal::Cells(cells)).expect("the plan of no planes fits any number of cells"))

@@ -3,8 +3,10 @@ use mathlib.Core.Path.{refl, ap, _∙_}
 use borrow.Author.Needs.{needs}
 use denote.Ref.{now}
 use Rattle.header.proofs.Refusing.{refusing}
+use Rattle.figure.specs.Bounding.{Bounding}
 use Rattle.card.specs.declared.Reached.{Reached}
-use Rattle.card.specs.Reading.{told, finished}
+use Rattle.card.specs.Reading.{asReading}
+use Rattle.card.specs.Workings.{finished}
 use Rattle.card.proofs.ReadCall.{finished-yes, stops}
 use Rattle.card.proofs.reading.finish.Statement.{statement}
 use Rattle.card.proofs.reading.finish.Tie as tie
@@ -29,7 +31,7 @@ returns c =
     let b = c .before .before in
     let t = b .before .before .before in
     let s = t .before .before in
-    finished-yes (s .args .refusal) (t .enum-told .given .1) (s .args .header) (s .args .plan) (now (s .args .coefficients)) (now (s .args .values)) _ _ (b .rebuild .ensures .1) (c .error-bound .ensures)
+    finished-yes (s .args .refusal) (t .enum-told .given .1) (s .args .header) (s .args .plan) (now (s .args .coefficients)) (now (s .args .values)) _ _ (b .rebuild .ensures .1) (ap (λ (x : Bounding). x .figure) (c .error-bound .ensures))
 
 returns-2 : tie.Need-returns-2
 unfolding finished
@@ -37,7 +39,7 @@ returns-2 c =
     let s = c .before .before in
     let qs = now (s .args .coefficients) in
     let vs = now (s .args .values) in
-    ap (λ (r : Reached). told r qs vs) (c .refused .ensures)
+    ap (λ (r : Reached). asReading r qs vs) (c .refused .ensures)
     ∙ stops qs vs (s .args .refusal) _ refl _ (refusing (s .args .refusal) (c .before .match .keys2))
 
 pub finish-spec : {M : Type 1} → statement M

@@ -4,7 +4,7 @@ use borrow.Author.Needs.{needs}
 use denote.Ref.{now}
 use Rattle.order.specs.CardOrder.{wholeOf}
 use Rattle.card.specs.declared.Reached.{Reached}
-use Rattle.card.specs.Reading.{told, readOpened, showing}
+use Rattle.card.specs.Reading.{asReading, readOpened, showing}
 use Rattle.header.specs.Opening.{Opening}
 use Rattle.header.proofs.Refusing.{refusing, header-right}
 use Rattle.card.proofs.ReadCall.{stops, opened-yes, header-here}
@@ -55,7 +55,7 @@ unfolding showing
 returns-2 c =
     let o = c .before .before in
     let s = S o in
-    ap (λ (r : Reached). told r (now (s .args .coefficients)) (now (s .args .values))) (c .refused .ensures)
+    ap (λ (r : Reached). asReading r (now (s .args .coefficients)) (now (s .args .values))) (c .refused .ensures)
     ∙ stops (now (s .args .coefficients)) (now (s .args .values)) (o .«open» .result .refusal) _ (ap (λ (x : Opening). x .refused) (o .«open» .ensures)) _
     (refusing (o .«open» .result .refusal) (c .before .match .keys2))
 

@@ -9,7 +9,7 @@ use denote.Ref.{now}
 use lib.IntN.{ℤ}
 use Rattle.order.specs.CardOrder.{wholeOf}
 use Rattle.card.specs.declared.Reached.{Reached}
-use Rattle.card.specs.Reading.{told, goodLengths}
+use Rattle.card.specs.Reading.{asReading, goodLengths}
 use Rattle.card.proofs.ReadCall.{read-short, whole-read}
 use Rattle.card.proofs.reading.show_opened.Statement.{statement}
 use Rattle.card.proofs.reading.show_opened.Tie as tie
@@ -45,7 +45,7 @@ returns : tie.Need-returns
 returns c =
     let g = c .before .before in
     let s = g .before .before .before .before in
-    ap (λ (r : Reached). told r (Qs s) (Vs s)) (c .refused .ensures)
+    ap (λ (r : Reached). asReading r (Qs s) (Vs s)) (c .refused .ensures)
     ∙ read-short (s .args .header) (s .pre .0) (s .args .at) (Bs s) (s .pre .1) (Qs s) (Vs s) (sym (g .good-lengths .ensures) ∙ not-true (g .good-lengths .result) (c .before .if1 .taken)) (wholeOf (Bs s) (s .args .header) (s .args .at))
 
 load-whole-requires : tie.Need-load-whole-requires

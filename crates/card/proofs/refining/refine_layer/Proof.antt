@@ -15,7 +15,7 @@ use Rattle.header.specs.Plan.{loads}
 use Rattle.header.proofs.Rightness.{Right, right-yes, layers-few}
 use Rattle.order.specs.CardOrder.{wholeOf}
 use Rattle.card.specs.declared.Reached.{Reached}
-use Rattle.card.specs.Reading.{told}
+use Rattle.card.specs.Reading.{asReading}
 use Rattle.card.proofs.RefineCall.{refine-past, refine-none, next-named, added-refine}
 use Rattle.card.proofs.refining.refine_layer.Statement.{statement}
 use Rattle.card.proofs.refining.refine_layer.Tie as tie
@@ -61,7 +61,7 @@ returns : tie.Need-returns
 returns c =
     let n = c .before .before in
     let s = S n in
-    ap (λ (r : Reached). told r (Qs s) (Vs s)) (c .refused .ensures)
+    ap (λ (r : Reached). asReading r (Qs s) (Vs s)) (c .refused .ensures)
     ∙ refine-past (Qs s) (Vs s) (Bs s) (s .args .header) (s .args .at) (s .args .plan) (s .args .layer) (omega (arith, c .before .if1 .taken, count n))
 
 mul-if2 : tie.Need-mul-if2
@@ -83,7 +83,7 @@ returns-2 : tie.Need-returns-2
 returns-2 c =
     let y = c .before .before in
     let s = S (y .before) in
-    ap (λ (r : Reached). told r (Qs s) (Vs s)) (c .refused2 .ensures)
+    ap (λ (r : Reached). asReading r (Qs s) (Vs s)) (c .refused2 .ensures)
     ∙ refine-none (Qs s) (Vs s) (Bs s) (s .args .header) (s .args .at) (s .args .plan) (s .args .layer) (layer-low y) (omega (arith, limit-is s, c .before .if2 .taken))
 
 abbrev E : tie.After-counts → tie.Else2

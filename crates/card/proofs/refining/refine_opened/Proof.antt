@@ -9,7 +9,7 @@ use Rattle.header.specs.Refusals.{detailsOf}
 use Rattle.header.proofs.Refusing.{refusing}
 use Rattle.order.specs.CardOrder.{wholeOf}
 use Rattle.card.specs.declared.Reached.{Reached}
-use Rattle.card.specs.Reading.{firstRefusal, told}
+use Rattle.card.specs.Reading.{firstRefusal, asReading}
 use Rattle.card.specs.Refining.{refineOpened}
 use Rattle.loading.proofs.Loads.{plan-within}
 use Rattle.card.proofs.ReadCall.{whole-here, checked-is, checked-yes, goes-on, stops}
@@ -88,7 +88,7 @@ unfolding refineOpened
 returns-2 c =
     let k = c .before .before in
     let s = S k in
-    ap (λ (r : Reached). told r (Qs s) (Vs s)) (c .refused .ensures)
+    ap (λ (r : Reached). asReading r (Qs s) (Vs s)) (c .refused .ensures)
     ∙ stops (Qs s) (Vs s) (k .first-refusal .result) _ (answer k) _ (refusing (k .first-refusal .result) (c .before .match .keys2))
 
 pub refine-opened-spec : {M : Type 1} → statement M

@@ -13,7 +13,8 @@ use borrow.Author.Tests.{not-true, not-false, eqb-true, eqb-false, ltb-true, ltb
 use denote.Ref.{now}
 use Rattle.sheet.specs.declared.Shape.{Shape}
 use Rattle.sheet.specs.Limits.{levelsMost, stepMost}
-use Rattle.sheet.specs.Sheet.{sized, accepted, sheetOf, points, pointsIn}
+use Rattle.sheet.specs.Sheet.{sized, accepted, sheetOf, points}
+use Rattle.sheet.specs.Workings.Shapes.{pointsIn}
 use Rattle.sheet.proofs.Accepting.{points-in}
 use Rattle.card.specs.Writing.{outputLeast, badSizes}
 use Rattle.card.proofs.BadSizes.{bad-sizes}

@@ -8,7 +8,7 @@ use borrow.Author.Needs.{needs}
 use Rattle.integers.proofs.Diff.{Diff, #, via, _⊞_, _⊡_}
 use Rattle.integers.proofs.Order.{eq-by}
 use Rattle.integers.proofs.Machine.{bits, sfits-by}
-use Rattle.digits.specs.Digits.{entry, byGroups}
+use Rattle.digits.specs.Groups.{entry, byGroups}
 use Rattle.digits.proofs.table.by_groups.Statement.{statement}
 use Rattle.digits.proofs.table.by_groups.Tie as tie
 

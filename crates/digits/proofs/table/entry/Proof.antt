@@ -11,7 +11,7 @@ use Rattle.integers.proofs.Diff.{Diff, #}
 use Rattle.integers.proofs.Order.{eq-by}
 use Rattle.integers.proofs.Near.{within-by}
 use Rattle.integers.proofs.Machine.{bits, told, mag-at, sfits-by}
-use Rattle.digits.specs.Digits.{entry}
+use Rattle.digits.specs.Groups.{entry}
 use Rattle.digits.proofs.table.entry.Statement.{statement}
 use Rattle.digits.proofs.table.entry.Tie as tie
 

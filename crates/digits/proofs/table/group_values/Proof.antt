@@ -1,6 +1,7 @@
 -- The constant is, entry by entry, the list of the groups' values, which antt computes.
 use mathlib.Core.Path.{refl}
-use Rattle.digits.specs.Digits.{value, bitsOf, groupsFrom, groupValues}
+use Rattle.digits.specs.Digits.{value}
+use Rattle.digits.specs.Groups.{bitsOf, groupsFrom, groupValues}
 use Rattle.digits.proofs.table.group_values.Statement.{statement}
 use Rattle.digits.proofs.table.group_values.Tie as tie
 

@@ -5,7 +5,7 @@ use borrow.Author.Needs.{needs}
 use borrow.Author.Tests.{lt-ltb, le-ltb}
 use denote.Ref.{now}
 use lib.ListN.{length}
-use Rattle.display.specs.Shown.{chunkBytes}
+use Rattle.display.specs.Workings.{chunkBytes}
 use Rattle.display.proofs.answers.ahead_of.Statement.{statement}
 use Rattle.display.proofs.answers.ahead_of.Tie as tie
 

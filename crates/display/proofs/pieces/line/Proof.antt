@@ -4,10 +4,10 @@ use Prim.Native.Nat.{_+_, _≤_}
 use native.Mathlib.Omega.{arith}
 use borrow.Author.Needs.{needs}
 use denote.Ref.{now}
-use Rattle.text.specs.Decimal.{digits}
+use Rattle.text.specs.Decimal.{decimal}
 use Rattle.text.specs.Line.{newline, lineText}
 use Rattle.text.proofs.Digits.{length-most}
-use Rattle.display.specs.Shown.{pieceMost}
+use Rattle.display.specs.Workings.{pieceMost}
 use Rattle.display.proofs.Behind.{long, extended-more, holds}
 use Rattle.display.proofs.pieces.line.Statement.{statement}
 use Rattle.display.proofs.pieces.line.Tie as tie
@@ -41,7 +41,7 @@ returns c =
     let t = m .before in
     let n = t .before in
     let key = now (n .before .before .args .key) in
-    let number = digits (n .before .before .args .n) in
+    let number = decimal (n .before .before .args .n) in
     let start = n .nothing .result in
     holds (key ++ number ++ newline ∷ []) (n .nothing .ensures)
     (extended-more start (key ++ number) (newline ∷ []) (extended-more start key number (t .with-text .ensures) (m .with-number .ensures)) (c .with-text2 .ensures))

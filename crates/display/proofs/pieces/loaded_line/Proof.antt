@@ -9,14 +9,15 @@ use mir.Syntax.{w64}
 use mir.Val.{Fits}
 use borrow.Author.Needs.{needs}
 use Rattle.sheet.specs.Limits.{layersMost}
-use Rattle.text.specs.Decimal.{charactersMost}
+use Rattle.text.specs.Workings.{charactersMost}
 use Rattle.text.specs.Line.{newline}
 use Rattle.text.specs.Joined.{joined}
 use Rattle.text.proofs.Digits.{length-most}
 use Rattle.text.proofs.Joins.{joined-length}
 use Rattle.header.specs.Header.{asciiFrom, ascii}
 use Rattle.sheet.proofs.LayerCounts.{count-few, count-take}
-use Rattle.display.specs.Shown.{pieceMost, loadedText}
+use Rattle.display.specs.Shown.{loadedText}
+use Rattle.display.specs.Workings.{pieceMost}
 use Rattle.display.proofs.Behind.{long, extended-more, holds}
 use Rattle.display.proofs.pieces.loaded_line.Statement.{statement}
 use Rattle.display.proofs.pieces.loaded_line.Tie as tie

@@ -5,7 +5,7 @@ use Prim.Native.Nat.{ℕ}
 use native.Mathlib.Omega.{arith}
 use lib.ListN.{replicate}
 use Rattle.text.proofs.Padding.{padded-none}
-use Rattle.display.specs.Shown.{pieceMost, pieceOf}
+use Rattle.display.specs.Workings.{pieceMost, pieceOf}
 use Rattle.display.proofs.Behind.{piece}
 use Rattle.display.proofs.pieces.nothing.Statement.{statement}
 use Rattle.display.proofs.pieces.nothing.Tie as tie

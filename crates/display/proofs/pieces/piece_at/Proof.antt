@@ -2,7 +2,7 @@
 use native.Mathlib.Omega.{arith}
 use borrow.Author.Needs.{needs}
 use borrow.Author.Tests.{lt-ltb, le-ltb, eq-eqb, ne-eqb}
-use Rattle.display.specs.Shown.{sheetLines, pieceAt}
+use Rattle.display.specs.Workings.{sheetLines, pieceAt}
 use Rattle.display.proofs.pieces.piece_at.Statement.{statement}
 use Rattle.display.proofs.pieces.piece_at.Tie as tie
 

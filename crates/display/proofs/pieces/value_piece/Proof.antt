@@ -14,7 +14,8 @@ use lib.ListN.{length, getD}
 use mir.Facts.{toZ-ofZ}
 use Rattle.integers.proofs.Bools.{by}
 use Rattle.header.specs.Header.{asciiFrom}
-use Rattle.display.specs.Shown.{pieceMost, extended, rowStart, rowEnd, signed, valuePiece}
+use Rattle.display.specs.Shown.{signed}
+use Rattle.display.specs.Workings.{pieceMost, extended, rowStart, rowEnd, valuePiece}
 use Rattle.display.proofs.Behind.{long, holds-more}
 use Rattle.display.proofs.Signs.{signed-length}
 use Rattle.display.proofs.pieces.value_piece.Statement.{statement}

@@ -4,7 +4,7 @@ use mathlib.Core.Path.{_≡_, subst}
 use Prim.Native.Nat.{ℕ}
 use native.Mathlib.Omega.{arith}
 use borrow.Author.Needs.{needs}
-use Rattle.display.specs.Shown.{extended}
+use Rattle.display.specs.Workings.{extended}
 use Rattle.display.proofs.pieces.with_end.Statement.{statement}
 use Rattle.display.proofs.pieces.with_end.Tie as tie
 

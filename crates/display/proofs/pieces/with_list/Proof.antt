@@ -7,7 +7,7 @@ use borrow.Author.Needs.{needs}
 use Rattle.sheet.specs.Limits.{layersMost}
 use Rattle.text.specs.Joined.{joined}
 use Rattle.text.proofs.Fitting.{put-fits}
-use Rattle.display.specs.Shown.{pieceMost}
+use Rattle.display.specs.Workings.{pieceMost}
 use Rattle.display.proofs.Behind.{piece}
 use Rattle.display.proofs.pieces.with_list.Statement.{statement}
 use Rattle.display.proofs.pieces.with_list.Tie as tie

@@ -5,7 +5,7 @@ use lib.ListN.{length}
 use borrow.Author.Needs.{needs}
 use denote.Ref.{now}
 use Rattle.text.proofs.Fitting.{put-fits}
-use Rattle.display.specs.Shown.{pieceMost}
+use Rattle.display.specs.Workings.{pieceMost}
 use Rattle.display.proofs.Behind.{piece}
 use Rattle.display.proofs.pieces.with_text.Statement.{statement}
 use Rattle.display.proofs.pieces.with_text.Tie as tie

@@ -5,7 +5,7 @@ use lib.IntN.{natAbs}
 use mir.Facts.{toZ-ofZ}
 use borrow.Author.Needs.{needs}
 use Rattle.integers.proofs.Diff.{lit}
-use Rattle.text.specs.Decimal.{digits}
+use Rattle.text.specs.Decimal.{decimal}
 use Rattle.header.specs.Header.{asciiFrom, ascii}
 use Rattle.integers.proofs.Machine.{arg, lt-test, not-lt-test}
 use Rattle.display.proofs.Behind.{long, extended-more}
@@ -39,7 +39,7 @@ returns c =
     let v = s .args .value in
     let size : m .magnitude .result ≡ natAbs v = m .magnitude .ensures ∙ ap natAbs (toZ-ofZ (s .fits .value)) in
     let text = signed-below v (omega (arith, lt-test (arg (s .fits .value)) (lit 0) (m .before .before .before .if1 .taken))) in
-    rw (text, ← size) (extended-more (s .args .piece) (ascii "-") (digits (m .magnitude .result)) (m .before .with-text .ensures) (c .with-number .ensures))
+    rw (text, ← size) (extended-more (s .args .piece) (ascii "-") (decimal (m .magnitude .result)) (m .before .with-text .ensures) (c .with-number .ensures))
 
 returns-2 : tie.Need-returns-2
 returns-2 c =

@@ -5,7 +5,7 @@ use lib.ListN.{length}
 use denote.Ref.{now}
 use mathlib.Core.Path.{_≡_}
 use borrow.Author.Needs.{needs}
-use Rattle.display.specs.Shown.{pieceMost, pieceAt}
+use Rattle.display.specs.Workings.{pieceMost, pieceAt}
 use Rattle.display.proofs.Behind.{holds-within}
 use Rattle.display.proofs.printing.print.Statement.{statement}
 use Rattle.display.proofs.printing.print.Tie as tie

@@ -1,11 +1,11 @@
--- What is shown has at most 8,192 points, and the slice of values has so many.
+-- What is shown has at most 8,192 points, and the slice of values has so many; the number is the one shown.
 use mathlib.Core.Path.{_≡_, ap, _∙_}
 use Prim.Native.Nat.{ℕ, _≤_}
 use native.Mathlib.Omega.{arith}
 use lib.IntN.{pos}
 use lib.ListN.{length, length-take, length-replicate}
 use Rattle.sheet.specs.Limits.{pointsMost}
-use Rattle.sheet.specs.Sheet.{points}
+use Rattle.display.specs.declared.Shown.{Shown}
 use borrow.Author.Needs.{needs}
 use Rattle.display.proofs.printing.show_in.Statement.{statement}
 use Rattle.display.proofs.printing.show_in.Tie as tie
@@ -45,7 +45,7 @@ same-length-2 : tie.Need-same-length-2
 same-length-2 c = search needs
 
 returns : tie.Need-returns
-returns c = search needs
+returns c = ap (λ (s : Shown). s .number) (D (c .before .before) .shown-of .ensures .0)
 
 pub show-in-spec : {M : Type 1} → statement M
 show-in-spec =

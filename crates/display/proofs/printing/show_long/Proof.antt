@@ -1,10 +1,9 @@
--- The line of a refusal is short, and within its bytes.
-use mathlib.Core.Path.{_≡_}
+-- The number is that of the opening's, seen as that of a long input; its line is within its bytes.
+use mathlib.Core.Path.{_≡_, ap, _∙_}
+use Prim.Native.Nat.{ℕ}
 use native.Mathlib.Omega.{arith}
 use lib.ListN.{length}
-use Rattle.text.specs.Line.{lineText}
-use Rattle.header.specs.Header.{asciiFrom, ascii}
-use Rattle.display.specs.Shown.{pieceMost}
+use Rattle.display.specs.Workings.{pieceMost, refusedLine, longNumber}
 use Rattle.display.proofs.Behind.{holds-within}
 use borrow.Author.Needs.{needs}
 use Rattle.display.proofs.printing.show_long.Statement.{statement}
@@ -13,35 +12,23 @@ use Rattle.display.proofs.printing.show_long.Tie as tie
 opening-number-requires : tie.Need-opening-number-requires
 opening-number-requires c κs = search needs
 
-ends-later-requires : tie.Need-ends-later-requires
-ends-later-requires c κs = search needs
-
-slice-aggregate-line : tie.Need-slice-aggregate-line
-slice-aggregate-line c = search needs
-
 long-number-requires : tie.Need-long-number-requires
 long-number-requires c κs = search needs
 
-line-requires : tie.Need-line-requires
-line-requires c κs = search needs
+refused-line-requires : tie.Need-refused-line-requires
+refused-line-requires c κs = search needs
 
 write-requires : tie.Need-write-requires
-unfolding asciiFrom
 write-requires c κs =
-    let full : length (c .line .result .bytes) ≡ pieceMost = search needs in
-    omega (arith, holds-within (lineText (ascii "refused=") (c .before .long-number .result)) (c .line .ensures))
+    let full : length (c .refused-line .result .bytes) ≡ pieceMost = search needs in
+    omega (arith, holds-within (refusedLine (c .before .long-number .result) 0) (c .refused-line .ensures))
 
 returns : tie.Need-returns
-returns c = search needs
+returns c =
+    let l = c .before .before in
+    l .long-number .ensures ∙ ap (λ (n : ℕ). longNumber n (l .before .before .before .args .ends)) (l .before .opening-number .ensures)
 
 pub show-long-spec : {M : Type 1} → statement M
 show-long-spec =
     tie.close
-    (tie.spec
-    opening-number-requires
-    ends-later-requires
-    slice-aggregate-line
-    long-number-requires
-    line-requires
-    write-requires
-    returns)
+    (tie.spec opening-number-requires long-number-requires refused-line-requires write-requires returns)

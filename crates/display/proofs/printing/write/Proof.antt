@@ -3,7 +3,7 @@ use native.Mathlib.Omega.{arith}
 use mathlib.Core.Path.{_≡_}
 use lib.ListN.{length, length-take}
 use borrow.Author.Needs.{needs}
-use Rattle.display.specs.Shown.{pieceMost}
+use Rattle.display.specs.Workings.{pieceMost}
 use Rattle.display.proofs.printing.write.Statement.{statement}
 use Rattle.display.proofs.printing.write.Tie as tie
 

@@ -10,7 +10,7 @@ use Rattle.header.specs.Header.{planesOf}
 use Rattle.header.specs.Plan.{loads}
 use Rattle.header.proofs.Over.{over-none}
 use Rattle.header.proofs.Rightness.{Right, right-yes}
-use Rattle.figure.specs.Figure.{carryOf, chargeOf}
+use Rattle.figure.specs.Workings.{carryOf, chargeOf}
 use Rattle.figure.proofs.LayerRules.{carried-told, charge-told}
 use Rattle.figure.proofs.Places.{standing as stands, figure-same, below}
 use Rattle.figure.proofs.bound.figure_of.Statement.{statement}

@@ -6,9 +6,9 @@ use borrow.Author.Needs.{needs}
 use borrow.Author.Tests.{lt-ltb, le-ltb, le-leb, lt-leb}
 use Rattle.digits.proofs.Losses.{loss-counted}
 use Rattle.sheet.specs.Limits.{stepMost}
-use Rattle.layers.specs.Calls.{widthOf}
+use Rattle.layers.specs.Workings.Calls.{widthOf}
 use Rattle.header.specs.Header.{planesOf}
-use Rattle.figure.specs.Figure.{chargeOf, chargeIn}
+use Rattle.figure.specs.Workings.{chargeOf, chargeIn}
 use Rattle.figure.proofs.Figures.{own-few}
 use Rattle.figure.proofs.rules.charge.Statement.{statement}
 use Rattle.figure.proofs.rules.charge.Tie as tie

@@ -3,8 +3,8 @@ use mathlib.Core.Path.{_≡_}
 use native.Mathlib.Omega.{arith}
 use borrow.Author.Needs.{needs}
 use borrow.Author.Tests.{eq-eqb, ne-eqb}
-use Rattle.sheet.specs.Sheet.{sizeAt}
-use Rattle.figure.specs.Figure.{ruleOf}
+use Rattle.sheet.specs.Workings.Shapes.{sizeAt}
+use Rattle.figure.specs.Workings.{ruleOf}
 use Rattle.figure.proofs.rules.rule_of.Statement.{statement}
 use Rattle.figure.proofs.rules.rule_of.Tie as tie
 

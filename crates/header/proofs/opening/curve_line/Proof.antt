@@ -7,10 +7,10 @@ use native.Mathlib.Omega.{arith}
 use lib.ListN.{length, take, drop}
 use borrow.Author.Needs.{needs}
 use Rattle.sheet.specs.declared.Curve.the-variants.{Linear, Cubic}
-use Rattle.text.specs.Line.{newline, before}
+use Rattle.text.specs.Line.{newline, indexOf}
 use Rattle.text.proofs.Lines.{is-end, past, inside}
 use Rattle.header.specs.Header.{ascii, asciiFrom, curveText}
-use Rattle.header.specs.Opening.{same}
+use Rattle.header.specs.Opening.{isText}
 use Rattle.header.proofs.Taking.{same-as, curve-short, curve-linear, curve-cubic, curve-wrong}
 use Rattle.header.proofs.opening.curve_line.Statement.{statement}
 use Rattle.header.proofs.opening.curve_line.Tie as tie
@@ -25,7 +25,7 @@ text f = drop (A f .args .at) (A f .args .bytes .now)
 abbrev end : tie.After-find → ℕ
 end f = f .find .result - A f .args .at
 
-end-is : (f : tie.After-find) → end f ≡ before newline (text f)
+end-is : (f : tie.After-find) → end f ≡ indexOf newline (text f)
 end-is f = is-end (A f .args .bytes .now) (A f .args .at) (f .find .ensures)
 
 in-text : (e : tie.Else1) → end (e .before) < length (text (e .before))
@@ -35,17 +35,17 @@ in-text e = inside (A (e .before) .args .bytes .now) (A (e .before) .args .at) (
 abbrev F : tie.After-is-text → tie.Else1
 F t = t .before .before .before
 
-linear : (t : tie.After-is-text) → same (ascii "curve=" ++ curveText Linear) (take (end (F t .before)) (text (F t .before))) ≡ t .is-text .result
+linear : (t : tie.After-is-text) → isText (ascii "curve=" ++ curveText Linear) (take (end (F t .before)) (text (F t .before))) ≡ t .is-text .result
 unfolding asciiFrom
 linear t = same-as _ _ (t .is-text .ensures) refl
 
 abbrev G : tie.After-is-text2 → tie.Else2
 G t = t .before .before
 
-not-linear : (e : tie.Else2) → same (ascii "curve=" ++ curveText Linear) (take (end (F (e .before) .before)) (text (F (e .before) .before))) ≡ false
+not-linear : (e : tie.Else2) → isText (ascii "curve=" ++ curveText Linear) (take (end (F (e .before) .before)) (text (F (e .before) .before))) ≡ false
 not-linear e = linear (e .before) ∙ e .if2 .left
 
-cubic : (t : tie.After-is-text2) → same (ascii "curve=" ++ curveText Cubic) (take (end (F (G t .before) .before)) (text (F (G t .before) .before))) ≡ t .is-text2 .result
+cubic : (t : tie.After-is-text2) → isText (ascii "curve=" ++ curveText Cubic) (take (end (F (G t .before) .before)) (text (F (G t .before) .before))) ≡ t .is-text2 .result
 unfolding asciiFrom
 cubic t = same-as _ _ (t .is-text2 .ensures) refl
 

@@ -17,8 +17,9 @@ use Rattle.sheet.proofs.Lists.{length-tabulate}
 use Rattle.text.specs.Line.{starts}
 use Rattle.text.proofs.Lines.{tail}
 use Rattle.text.proofs.Search.{starts-length}
-use Rattle.header.specs.Header.{ascii, asciiFrom, spansOf, cellsOf, cellsBy}
-use Rattle.header.specs.Opening.{planesMost, limitsBy}
+use Rattle.header.specs.Header.{ascii, asciiFrom, cellsOf}
+use Rattle.header.specs.Workings.{spansOf, cellsBy, limitsBy}
+use Rattle.header.specs.Opening.{planesMost}
 use Rattle.header.proofs.Total.{cells-most, span-most}
 use Rattle.header.proofs.Cells.{cells-by}
 use Rattle.header.proofs.Rightness.{limits-by}

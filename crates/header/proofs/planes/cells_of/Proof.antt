@@ -8,7 +8,8 @@ use native.Mathlib.Omega.{arith}
 use lib.ListN.{getD}
 use Rattle.sheet.specs.Limits.{layersMost}
 use Rattle.sheet.specs.Lists.{total}
-use Rattle.header.specs.Header.{placesMost, planeCellsMost, cellsBy}
+use Rattle.header.specs.Header.{placesMost}
+use Rattle.header.specs.Workings.{planeCellsMost, cellsBy}
 use Rattle.header.proofs.Totals.{total-most}
 use Rattle.header.proofs.planes.cells_of.Statement.{statement}
 use Rattle.header.proofs.planes.cells_of.Tie as tie

@@ -4,7 +4,7 @@ use mathlib.Core.Path.{refl}
 use native.Mathlib.Omega.{arith}
 use lib.ListN.{getD}
 use Rattle.sheet.specs.Limits.{layersMost}
-use Rattle.header.specs.Opening.{mostBy, limitsBy}
+use Rattle.header.specs.Workings.{mostBy, limitsBy}
 use Rattle.header.proofs.Fills.{Filled, filled-none, filled-more, filled-all}
 use Rattle.header.proofs.planes.limits.Statement.{statement}
 use Rattle.header.proofs.planes.limits.Tie as tie

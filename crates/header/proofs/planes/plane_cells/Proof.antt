@@ -2,7 +2,8 @@
 use native.Mathlib.Omega.{arith}
 use borrow.Author.Needs.{needs}
 use Rattle.integers.specs.Floor.{ceilDiv}
-use Rattle.header.proofs.Cells.{sizing-most, cells-sized}
+use Rattle.sheet.proofs.Places.{sizing-most}
+use Rattle.header.proofs.Cells.{cells-sized}
 use Rattle.header.proofs.planes.plane_cells.Statement.{statement}
 use Rattle.header.proofs.planes.plane_cells.Tie as tie
 

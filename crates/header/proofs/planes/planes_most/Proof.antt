@@ -1,7 +1,7 @@
 -- The test decides.
 use native.Mathlib.Omega.{arith}
 use borrow.Author.Tests.{eq-eqb, ne-eqb}
-use Rattle.header.specs.Opening.{mostBy}
+use Rattle.header.specs.Workings.{mostBy}
 use Rattle.header.proofs.planes.planes_most.Statement.{statement}
 use Rattle.header.proofs.planes.planes_most.Tie as tie
 

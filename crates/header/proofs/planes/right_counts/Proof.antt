@@ -1,4 +1,4 @@
--- The tests in turn: the limits are those of the shape's layers, so the first count that is over is that of `rightCounts`.
+-- The tests in turn: the limits are those of the shape's layers, so the first count that is over is that of `countsFit`.
 use Prim.Native.Nat.{ℕ}
 use mathlib.Core.Bool.{true}
 use mathlib.Core.List.{List}
@@ -8,7 +8,8 @@ use borrow.Author.Needs.{needs}
 use borrow.Author.Tests.{not-true, not-false}
 use Rattle.sheet.specs.Sheet.{accepted}
 use Rattle.header.specs.Plan.{firstOver}
-use Rattle.header.specs.Opening.{planesMost, limitsBy, rightCounts}
+use Rattle.header.specs.Opening.{planesMost, countsFit}
+use Rattle.header.specs.Workings.{limitsBy}
 use Rattle.header.proofs.Over.{over-listed}
 use Rattle.header.proofs.Rightness.{limits-by}
 use Rattle.header.proofs.planes.right_counts.Statement.{statement}
@@ -24,7 +25,7 @@ accepted-requires : tie.Need-accepted-requires
 accepted-requires c κs = search needs
 
 returns : tie.Need-returns
-unfolding rightCounts
+unfolding countsFit
 returns c = rw (sym (c .before .accepted .ensures) ∙ not-true _ (c .if1 .taken))
 
 limits-requires : tie.Need-limits-requires
@@ -34,7 +35,7 @@ first-over-requires : tie.Need-first-over-requires
 first-over-requires c κs = search needs
 
 returns-2 : tie.Need-returns-2
-unfolding rightCounts
+unfolding countsFit
 returns-2 c =
     let e = c .before .before in
     let s = e .before .before in

@@ -3,7 +3,7 @@ use Prim.Native.Nat.{_≤_, _-_}
 use mathlib.Core.Path.{refl}
 use native.Mathlib.Omega.{arith}
 use Rattle.sheet.specs.Limits.{layersMost}
-use Rattle.header.specs.Header.{cellsAt}
+use Rattle.header.specs.Workings.{cellsAt}
 use Rattle.header.proofs.Fills.{Filled, filled-none, filled-more, filled-all}
 use Rattle.header.proofs.planes.spans_of.Statement.{statement}
 use Rattle.header.proofs.planes.spans_of.Tie as tie

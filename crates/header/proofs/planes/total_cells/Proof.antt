@@ -6,8 +6,8 @@ use mathlib.Core.Path.{_≡_, sym, ap, _∙_}
 use lib.ListN.{length}
 use borrow.Author.Needs.{needs}
 use Rattle.sheet.specs.Limits.{layersMost}
-use Rattle.header.specs.Header.{cellsBy}
-use Rattle.header.specs.Opening.{rightCounts, cellsNamed}
+use Rattle.header.specs.Workings.{cellsBy, cellsNamed}
+use Rattle.header.specs.Opening.{countsFit}
 use Rattle.header.proofs.Cells.{cells-by}
 use Rattle.header.proofs.Rightness.{counts-yes, all-few}
 use Rattle.header.proofs.Total.{span-most}
@@ -20,7 +20,7 @@ spans-of-requires c κs = search needs
 right-counts-requires : tie.Need-right-counts-requires
 right-counts-requires c κs = c .spans-of .ensures
 
-yes-counts : (c : tie.Then1) → (let s = c .before .before .before in rightCounts (s .args .shape) (s .args .planes) ≡ true)
+yes-counts : (c : tie.Then1) → (let s = c .before .before .before in countsFit (s .args .shape) (s .args .planes) ≡ true)
 yes-counts c = sym (c .before .right-counts .ensures) ∙ c .if1 .taken
 
 cells-of-requires : tie.Need-cells-of-requires

@@ -10,7 +10,8 @@ use mir.Val.{Fits}
 use borrow.Author.Needs.{needs}
 use Rattle.text.proofs.Padding.{padded-put}
 use Rattle.header.specs.declared.Header.{Header}
-use Rattle.header.specs.Header.{planesOf, textMost, headerText, textOf}
+use Rattle.header.specs.Header.{planesOf, headerText}
+use Rattle.header.specs.Workings.{textMost, textOf}
 use Rattle.header.proofs.TextLength.{text-fits}
 use Rattle.header.proofs.printing.header_text.Statement.{statement}
 use Rattle.header.proofs.printing.header_text.Tie as tie
@@ -19,7 +20,7 @@ number : (s : tie.Start) (k : ℕ) → planesOf (s .args .header) k < 2 ^ 64
 number s k = let f : Fits w64 (getD (s .args .header .planes) k 0) = search needs in f .fits
 
 room : (s : tie.Start) → length (headerText (s .args .header)) ≤ textMost
-room s = text-fits (s .args .header) (search needs) (search needs) (search needs) (search needs) (search needs) (λ k _. number s k)
+room s = text-fits (s .args .header) (search needs) (search needs) (search needs) (search needs) (search needs) (search needs) (λ k _. number s k)
 
 text-is : (h : Header) (z end : ℕ) (bytes : List ℕ) → z ≡ 0 → end ≡ length (headerText h) → bytes ≡ sets (replicate textMost z) 0 (headerText h) → length (headerText h) ≤ textMost
     → record { bytes = bytes; length = end } ≡ textOf h

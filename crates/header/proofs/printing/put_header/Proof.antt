@@ -10,15 +10,15 @@ use mir.Val.{Fits}
 use native.Mathlib.Nat.{le-trans}
 use borrow.Author.Needs.{needs}
 use Rattle.sheet.specs.Limits.{layersMost}
-use Rattle.sheet.specs.Sheet.{layerCount}
-use Rattle.text.specs.Decimal.{digits}
+use Rattle.sheet.specs.Sheet.{layers}
+use Rattle.text.specs.Decimal.{decimal}
 use Rattle.text.specs.Line.{newline, lineText}
 use Rattle.text.specs.Joined.{joined}
 use Rattle.text.proofs.Fitting.{put-fits}
 use Rattle.text.proofs.Lines.{line-length}
 use Rattle.header.specs.declared.Header.{Header}
 use Rattle.header.specs.Header.{asciiFrom, curveText, ascii, planesOf, headerText}
-use Rattle.sheet.proofs.LayerCounts.{count-few}
+use Rattle.sheet.proofs.LayerCounts.{count-few, count-take}
 use Rattle.header.proofs.TextLength.{text-length, text-fits}
 use Rattle.text.proofs.Stores.{put-none, put-more, put-run, put-byte, put-all}
 use Rattle.header.proofs.printing.put_header.Statement.{statement}
@@ -60,7 +60,7 @@ full : (s : tie.Start) → length (H s .planes) ≡ layersMost
 full s = search needs
 
 room-all : (s : tie.Start) → length (headerText (H s)) ≤ length (s .args .out .now)
-room-all s = le-trans (text-fits (H s) (search needs) (search needs) (search needs) (search needs) (search needs) (λ k _. number s k)) (s .pre)
+room-all s = le-trans (text-fits (H s) (full s) (search needs) (search needs) (search needs) (search needs) (search needs) (λ k _. number s k)) (s .pre)
 
 -- how far the text has come, in a slice of the same length
 record Upto (s : tie.Start) (out : List ℕ) (end n : ℕ) : Type 0 where
@@ -69,28 +69,28 @@ record Upto (s : tie.Start) (out : List ℕ) (end n : ℕ) : Type 0 where
 
 module _ (s : tie.Start) where
   abbrev n1 : ℕ
-  n1 = 6 + length (digits (H s .shape .rows))
+  n1 = 6 + length (decimal (H s .shape .rows))
 
   abbrev n2 : ℕ
-  n2 = n1 + 6 + length (digits (H s .shape .cols))
+  n2 = n1 + 6 + length (decimal (H s .shape .cols))
 
   abbrev n3 : ℕ
-  n3 = n2 + 8 + length (digits (H s .shape .levels))
+  n3 = n2 + 8 + length (decimal (H s .shape .levels))
 
   abbrev n4 : ℕ
   n4 = n3 + 7 + length (curveText (H s .curve))
 
   abbrev n5 : ℕ
-  n5 = n4 + 6 + length (digits (H s .step))
+  n5 = n4 + 6 + length (decimal (H s .step))
 
   abbrev counted : List ℕ
-  counted = joined (take (layerCount (H s .shape)) (H s .planes))
+  counted = joined (take (layers (H s .shape)) (H s .planes))
 
   abbrev n6 : ℕ
   n6 = n5 + 8 + length counted
 
   abbrev n7 : ℕ
-  n7 = n6 + 7 + length (digits (H s .cells))
+  n7 = n6 + 7 + length (decimal (H s .cells))
 
   room : n7 ≤ length (s .args .out .now)
   room = omega (arith, text-length (H s), room-all s)
@@ -146,7 +146,8 @@ fit-list c =
     let l = G c in
     let p = key-2 l in
     let f = put-fits (l .put2 .last .0) (l .put2 .result) (counted (Z c)) (omega (arith, p .ends, p .long, room (Z c))) in
-    (rw (N c .layer-count .ensures) at (c .put-joined .ensures .0) ∙ f .0, rw (N c .layer-count .ensures) at (c .put-joined .ensures .1) ∙ f .1)
+    let t = count-take (H (Z c) .shape) (H (Z c) .planes) (full (Z c)) in
+    (rw (N c .layer-count .ensures, t) at (c .put-joined .ensures .0) ∙ f .0, rw (N c .layer-count .ensures, t) at (c .put-joined .ensures .1) ∙ f .1)
 
 sixth : (c : tie.After-put-joined) → Upto (Z c) (set (c .put-joined .last .0) (c .put-joined .result) newline) (c .put-joined .result + 1) (n6 (Z c))
 sixth c = let p = key-2 (G c) in record { ends = omega (arith, p .ends, fit-list c .0); long = simp length-set (c .put-joined .kept .0 ∙ p .long) }

@@ -1,6 +1,6 @@
 -- The numbers are those of a point, which are small.
 use native.Mathlib.Omega.{arith}
-use Rattle.layers.specs.Loops.{columns}
+use Rattle.layers.specs.Workings.Loops.{columns}
 use Rattle.sheet.proofs.Accepting.{accepted-yes}
 use Rattle.sheet.proofs.Fits.{Held, held}
 use Rattle.layers.proofs.Neighbours.{same-crossing}

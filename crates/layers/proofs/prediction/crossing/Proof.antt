@@ -4,7 +4,7 @@ use native.Mathlib.Omega.{arith}
 use borrow.Author.Needs.{needs}
 use Rattle.sheet.specs.declared.Direction.{Direction}
 use Rattle.sheet.specs.declared.Direction.the-variants.{Anchor, Across, Down, Between}
-use Rattle.layers.specs.Loops.{crossingOf}
+use Rattle.layers.specs.Workings.Loops.{crossingOf}
 use Rattle.sheet.proofs.Accepting.{accepted-yes}
 use Rattle.sheet.proofs.Fits.{Held, held}
 use Rattle.layers.proofs.Neighbours.{same-crossing}

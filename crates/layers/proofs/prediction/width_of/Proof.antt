@@ -3,7 +3,7 @@ use native.Mathlib.Omega.{arith}
 use borrow.Author.Needs.{needs}
 use borrow.Author.Tests.{lt-leb, le-leb}
 use Rattle.sheet.specs.Limits.{stepMost}
-use Rattle.layers.specs.Calls.{widthOf}
+use Rattle.layers.specs.Workings.Calls.{widthOf}
 use Rattle.layers.proofs.prediction.width_of.Statement.{statement}
 use Rattle.layers.proofs.prediction.width_of.Tie as tie
 

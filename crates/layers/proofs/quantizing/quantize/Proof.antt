@@ -14,8 +14,9 @@ use Rattle.sheet.specs.declared.Curve.{Curve}
 use Rattle.layers.specs.declared.Scan.the-variants.{Clear}
 use Rattle.layers.specs.declared.Quantized.the-variants.{Done, OutOfRange}
 use Rattle.layers.specs.Layering.{layering, written, coefs}
-use Rattle.layers.specs.Calls.{settled, Quantizing, quantizable, afterScan, quantizing}
-use Rattle.sheet.specs.Sheet.{laid, points}
+use Rattle.layers.specs.Workings.Calls.{settled, Quantizing, quantizable, afterScan, quantizing}
+use Rattle.sheet.specs.Sheet.{points}
+use Rattle.sheet.specs.Workings.Shapes.{laid}
 use Rattle.sheet.proofs.Accepting.{Sheet, accepted-yes, points-in}
 use Rattle.sheet.proofs.Fits.{lines-small}
 use Rattle.layers.proofs.Answers.{Comes, settled-yes, samples-by, unsettled, samples-short, coefficients-short, values-short, right, after-scan}

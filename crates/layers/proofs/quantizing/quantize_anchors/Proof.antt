@@ -21,8 +21,10 @@ use Rattle.sheet.specs.Limits.{sampleMost}
 use Rattle.sheet.specs.Lists.{at}
 use Rattle.sheet.specs.Sheet.{points, place, layers, direction, spacing, inLayer}
 use Rattle.layers.specs.Prediction.{predicted, coefficientOf, rebuiltFrom}
-use Rattle.layers.specs.Layering.{layering, pointBy, Proper, makes, writes}
-use Rattle.layers.specs.Loops.{Samples, inRow, AtRow, AtPoint, partBy}
+use Rattle.layers.specs.Layering.{layering, pointBy, makes, writes}
+use Rattle.layers.proofs.Proper.{Proper}
+use Rattle.layers.specs.Workings.Loops.{Samples, inRow, AtRow, partBy}
+use Rattle.layers.proofs.AtPoint.{AtPoint}
 use Rattle.sheet.proofs.Accepting.{accepted-yes}
 use Rattle.sheet.proofs.Fits.{Held, held, cols-small}
 use Rattle.layers.proofs.Neighbours.{nothing-predicted}

@@ -1,7 +1,7 @@
 -- Each arm knows its direction, and is then the call's own promise.
 use mathlib.Core.Path.{ap}
 use borrow.Author.Needs.{needs}
-use Rattle.layers.specs.Loops.{crosses}
+use Rattle.layers.specs.Workings.Loops.{crosses}
 use Rattle.layers.proofs.quantizing.quantize_row.Statement.{statement}
 use Rattle.layers.proofs.quantizing.quantize_row.Tie as tie
 

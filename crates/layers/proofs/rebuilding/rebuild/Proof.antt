@@ -12,9 +12,11 @@ use borrow.Author.Tests.{not-true, not-false}
 use Rattle.sheet.specs.declared.Shape.{Shape}
 use Rattle.sheet.specs.declared.Curve.{Curve}
 use Rattle.sheet.specs.Limits.{stepMost}
-use Rattle.sheet.specs.Sheet.{accepted, points, laid}
+use Rattle.sheet.specs.Sheet.{accepted, points}
+use Rattle.sheet.specs.Workings.Shapes.{laid}
 use Rattle.layers.specs.Layering.{layering, rebuilt}
-use Rattle.layers.specs.Calls.{settled, full, rebuildable, rebuilding}
+use Rattle.layers.specs.Samples.{full}
+use Rattle.layers.specs.Workings.Calls.{settled, rebuildable, rebuilding}
 use Rattle.integers.proofs.Bools.{and-both, and-no-left, and-no-right}
 use Rattle.sheet.proofs.Accepting.{points-in}
 use Rattle.layers.proofs.Answers.{settled-yes, full-yes, full-no}

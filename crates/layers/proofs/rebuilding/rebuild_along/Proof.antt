@@ -15,7 +15,8 @@ use Rattle.sheet.specs.declared.Grid.{Grid}
 use Rattle.sheet.specs.Sheet.{points, layers, direction, spacing, inLayer}
 use Rattle.layers.specs.Prediction.{line, predicted, rebuiltFrom}
 use Rattle.layers.specs.Layering.{layering, reads as readsBy}
-use Rattle.layers.specs.Loops.{valueMost, Below, inRow, AtRow, AtPoint, partBy}
+use Rattle.layers.specs.Workings.Loops.{valueMost, Below, inRow, AtRow, partBy}
+use Rattle.layers.proofs.AtPoint.{AtPoint}
 use Rattle.sheet.proofs.Accepting.{accepted-yes}
 use Rattle.sheet.proofs.Fits.{Held, held, cols-small}
 use Rattle.layers.proofs.Neighbours.{row-line, row-predicted}

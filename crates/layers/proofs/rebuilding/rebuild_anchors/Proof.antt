@@ -15,7 +15,8 @@ use Rattle.sheet.specs.declared.Grid.{Grid}
 use Rattle.sheet.specs.Sheet.{points, layers, inLayer}
 use Rattle.layers.specs.Prediction.{rebuiltFrom}
 use Rattle.layers.specs.Layering.{layering, reads as readsBy}
-use Rattle.layers.specs.Loops.{inRow, AtRow, AtPoint, partBy}
+use Rattle.layers.specs.Workings.Loops.{inRow, AtRow, partBy}
+use Rattle.layers.proofs.AtPoint.{AtPoint}
 use Rattle.sheet.proofs.Accepting.{accepted-yes}
 use Rattle.sheet.proofs.Fits.{Held, held, cols-small}
 use Rattle.layers.proofs.Neighbours.{nothing-predicted}

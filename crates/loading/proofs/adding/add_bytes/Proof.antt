@@ -5,7 +5,7 @@ use Prim.Native.Nat.{ℕ, _+_, _-_, _*_, _^_, _<_, _≤_}
 use native.Mathlib.Omega.{arith}
 use lib.ListN.{length, getD}
 use denote.Ref.{now}
-use Rattle.loading.specs.Words.{wordsWith, halfAt, added}
+use Rattle.loading.specs.Workings.Words.{wordsWith, halfAt, added}
 use Rattle.loading.proofs.PlaneSums.{with-length, with-none, with-run, with-after}
 use Rattle.loading.proofs.HalfBytes.{half-low, half-high, added-half}
 use Rattle.loading.proofs.adding.add_bytes.Statement.{statement}

@@ -5,7 +5,7 @@ use native.Mathlib.Nat.{le-refl}
 use native.Mathlib.Omega.{arith}
 use lib.ListN.{length, getD, set}
 use denote.Ref.{now}
-use Rattle.loading.specs.Words.{wordsWith}
+use Rattle.loading.specs.Workings.Words.{wordsWith}
 use Rattle.loading.proofs.PlaneSums.{with-length, with-none, with-next, with-after}
 use Rattle.loading.proofs.adding.add_half.Statement.{statement}
 use Rattle.loading.proofs.adding.add_half.Tie as tie

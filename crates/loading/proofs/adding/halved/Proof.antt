@@ -4,7 +4,7 @@ use Prim.Native.Nat.{_-_, _/_, _≤_}
 use native.Mathlib.Omega.{arith}
 use lib.ListN.{getD}
 use Rattle.header.proofs.Fills.{Filled, filled-none, filled-more, filled-all}
-use Rattle.loading.specs.Words.{halfBits, halved}
+use Rattle.loading.specs.Workings.Words.{halfBits, halved}
 use Rattle.loading.proofs.adding.halved.Statement.{statement}
 use Rattle.loading.proofs.adding.halved.Tie as tie
 

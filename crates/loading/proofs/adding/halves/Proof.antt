@@ -3,7 +3,7 @@ use mathlib.Core.Path.{_≡_, refl}
 use Prim.Native.Nat.{_-_, _/_, _%_, _^_, _≤_}
 use native.Mathlib.Omega.{arith}
 use Rattle.header.proofs.Fills.{Filled, filled-none, filled-more, filled-all}
-use Rattle.loading.specs.Words.{halfBits, halfBit, halves}
+use Rattle.loading.specs.Workings.Words.{halfBits, halfBit, halves}
 use Rattle.loading.proofs.PlaneSums.{at-most}
 use Rattle.loading.proofs.adding.halves.Statement.{statement}
 use Rattle.loading.proofs.adding.halves.Tie as tie

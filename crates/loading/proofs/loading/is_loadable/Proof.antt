@@ -7,7 +7,7 @@ use borrow.Author.Tests.{not-true, not-false}
 use denote.Ref.{now}
 use lib.Dec.{eqb}
 use lib.ListN.{length}
-use Rattle.layers.specs.Calls.{full}
+use Rattle.layers.specs.Samples.{full}
 use Rattle.sheet.proofs.Accepting.{points-in}
 use Rattle.header.specs.Opening as O
 use Rattle.header.proofs.Rightness.{right-yes}
@@ -15,17 +15,17 @@ use Rattle.loading.proofs.Loads.{loadable-wrong, loadable-short, loadab
 use Rattle.loading.proofs.loading.is_loadable.Statement.{statement}
 use Rattle.loading.proofs.loading.is_loadable.Tie as tie
 
-is-right-requires : tie.Need-is-right-requires
-is-right-requires c κs = search needs
+is-well-formed-requires : tie.Need-is-well-formed-requires
+is-well-formed-requires c κs = search needs
 
 returns : tie.Need-returns
 returns c =
     let r = c .before in
     let s = r .before .before in
-    sym (loadable-wrong (now (s .args .coefficients)) (now (s .args .bytes)) (s .args .header) (s .args .at) (sym (r .is-right .ensures) ∙ not-true (r .is-right .result) (c .if1 .taken)))
+    sym (loadable-wrong (now (s .args .coefficients)) (now (s .args .bytes)) (s .args .header) (s .args .at) (sym (r .is-well-formed .ensures) ∙ not-true (r .is-well-formed .result) (c .if1 .taken)))
 
-right : (c : tie.Else1) → (let s = c .before .before .before in O.right (s .args .header) ≡ true)
-right c = sym (c .before .is-right .ensures) ∙ not-false (c .before .is-right .result) (c .if1 .left)
+right : (c : tie.Else1) → (let s = c .before .before .before in O.wellFormed (s .args .header) ≡ true)
+right c = sym (c .before .is-well-formed .ensures) ∙ not-false (c .before .is-well-formed .result) (c .if1 .left)
 
 returns-2 : tie.Need-returns-2
 returns-2 c =
@@ -44,4 +44,4 @@ returns-3 c =
     ∙ sym (loadable-by (now (s .args .coefficients)) (now (s .args .bytes)) (s .args .header) (s .args .at) (right (e .before)) (omega (arith, e .if2 .left)))
 
 pub is-loadable-spec : {M : Type 1} → statement M
-is-loadable-spec = tie.close (tie.spec is-right-requires returns returns-2 points-requires returns-3)
+is-loadable-spec = tie.close (tie.spec is-well-formed-requires returns returns-2 points-requires returns-3)

@@ -15,7 +15,7 @@ use Rattle.header.specs.Plan.{loads, firstOver}
 use Rattle.header.specs.Refusals.{refusal}
 use Rattle.order.specs.CardOrder.{wholePlan}
 use Rattle.header.proofs.Over.{over-le}
-use Rattle.loading.specs.Calls.{no, loadable}
+use Rattle.loading.specs.Workings.Calls.{notLoaded, loadable}
 use Rattle.loading.proofs.Loads.{loadable-right, loadable-here, loadable-full, whole-is, all-there, not-loadable, plan-over, plan-good}
 use Rattle.loading.proofs.loading.load.Statement.{statement}
 use Rattle.loading.proofs.loading.load.Tie as tie
@@ -78,7 +78,7 @@ returns-2 c =
     let f = c .before in
     let e = E f in
     let s = S e in
-    ap (λ (p : ℕ). no (Qs s) (refusal 9 p 0)) (over-is f)
+    ap (λ (p : ℕ). notLoaded (Qs s) (refusal 9 p 0)) (over-is f)
     ∙ plan-over (Qs s) (Bs s) (s .args .header) (s .args .at) (can e) (s .args .plan) (omega (arith, over-is f, c .if2 .taken))
 
 slice-aggregate-load-planes : tie.Need-slice-aggregate-load-planes

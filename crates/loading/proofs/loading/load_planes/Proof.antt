@@ -4,7 +4,7 @@ use borrow.Author.Needs.{needs}
 use denote.Ref.{now}
 use Rattle.header.specs.Plan.{loads}
 use Rattle.header.proofs.Rightness.{right-yes}
-use Rattle.loading.specs.Calls.{done}
+use Rattle.loading.specs.Workings.Calls.{done}
 use Rattle.loading.proofs.Loads.{load-bad, load-fine}
 use Rattle.layers.proofs.Answers.{full-long}
 use Rattle.loading.proofs.ReadWords.{read-right}

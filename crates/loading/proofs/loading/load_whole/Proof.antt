@@ -16,8 +16,8 @@ use Rattle.header.specs.Refusals.{detailsOf}
 use Rattle.order.specs.CardOrder.{wholePlan}
 use Rattle.header.proofs.Refusing.{refusing}
 use Rattle.loading.specs.InBytes.{firstBad}
-use Rattle.loading.specs.Words.{AllThere}
-use Rattle.loading.specs.Calls.{Loading, told, loadable, loadingWhole, allWhole}
+use Rattle.loading.specs.Workings.Words.{AllThere}
+use Rattle.loading.specs.Workings.Calls.{Loading, asLoading, loadable, loadingWhole, allWhole}
 use Rattle.loading.proofs.Loads.{loadable-right, loadable-here, loadable-full, whole-is, all-there, not-loadable, plan-good, whole-good, plan-whole, plan-none}
 use Rattle.loading.proofs.loading.load_whole.Statement.{statement}
 use Rattle.loading.proofs.loading.load_whole.Tie as tie
@@ -46,8 +46,8 @@ whole w =
     let s = S (w .before) in
     w .whole-planes .ensures ∙ whole-is (s .args .header) (loadable-right (Qs s) (Bs s) (s .args .header) (s .args .at) (can (w .before))) _ ∙ ap (wholePlan (s .args .header)) (omega arith)
 
-as-told : {r r′ : Refusal} {q : List ℤ} {l : Loading} → r′ ≡ r → told r q ≡ l → told r′ q ≡ l
-as-told {q = q} x e = ap (λ (r : Refusal). told r q) x ∙ e
+as-told : {r r′ : Refusal} {q : List ℤ} {l : Loading} → r′ ≡ r → asLoading r q ≡ l → asLoading r′ q ≡ l
+as-told {q = q} x e = ap (λ (r : Refusal). asLoading r q) x ∙ e
 
 is-loadable-requires : tie.Need-is-loadable-requires
 is-loadable-requires c κs = search needs
@@ -62,7 +62,7 @@ returns : tie.Need-returns
 returns c =
     let l = c .before .before in
     let s = l .before .before .before in
-    let e = ap (λ (r : Refusal). told r (Qs s)) (c .none-loaded .ensures .0) ∙ not-loadable (Qs s) (Bs s) (s .args .header) (s .args .at) (sym (l .is-loadable .ensures) ∙ not-true (l .is-loadable .result) (c .before .if1 .taken)) (Whole s) in
+    let e = ap (λ (r : Refusal). asLoading r (Qs s)) (c .none-loaded .ensures .0) ∙ not-loadable (Qs s) (Bs s) (s .args .header) (s .args .at) (sym (l .is-loadable .ensures) ∙ not-true (l .is-loadable .result) (c .before .if1 .taken)) (Whole s) in
     (e, c .none-loaded .ensures .1 ∙ plan-none (Qs s) (Bs s) (s .args .header) (s .args .at) (c .none-loaded .result .refusal) (Qs s) e (λ z. let y : 3 ≡ 0 = ap (λ (r : Refusal). detailsOf r .number) (sym (c .none-loaded .ensures .0)) ∙ z in omega arith))
 
 sub-whole-planes : tie.Need-sub-whole-planes

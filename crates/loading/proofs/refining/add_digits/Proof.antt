@@ -17,18 +17,19 @@ use Rattle.sheet.specs.declared.Lines.{Lines}
 use Rattle.sheet.specs.Limits.{pointsMost}
 use Rattle.sheet.specs.Lists.{at}
 use Rattle.sheet.specs.Sheet.{points, layerSize, pointOf, placeIn}
-use Rattle.sheet.specs.Lines.{lineStart}
+use Rattle.sheet.specs.Workings.Lines.{startIn, Lined}
 use Rattle.sheet.proofs.Accepting.{accepted-yes}
 use Rattle.sheet.proofs.Places.{size-most, point-place}
-use Rattle.sheet.proofs.LinePoints.{Lined, lined, line-there, line-room, line-on}
+use Rattle.sheet.proofs.LinePoints.{line-room, line-on}
 use Rattle.header.specs.Header.{placesMost}
+use Rattle.header.proofs.Cells.{size-there}
 use Rattle.header.proofs.Total.{plane-room}
-use Rattle.loading.specs.Words.{Scattered}
+use Rattle.loading.specs.Workings.Words.{Scattered}
 use Rattle.packing.specs.Planes.{allHeld}
 use Rattle.loading.specs.InBytes.{bitAt, coefsPlus}
 use Rattle.packing.proofs.All.{all-at}
 use Rattle.loading.proofs.Weights.{weight-small}
-use Rattle.loading.proofs.Scatters.{scattered-none, scattered-ahead, scattered-line, scattered-all}
+use Rattle.loading.proofs.Scatters.{line-apart, scattered-none, scattered-ahead, scattered-line, scattered-all}
 use Rattle.loading.proofs.refining.add_digits.Statement.{statement}
 use Rattle.loading.proofs.refining.add_digits.Tie as tie
 
@@ -69,14 +70,9 @@ With l q i = q +ℤ pos (bitAt (now (S l .args .bytes)) (S l .args .from) i) *�
 abbrev F : L → Shape → ℕ → ℤ
 F l sh i = With l (at (Qs l) (pointOf sh (K l) i)) i
 
--- the layer's lines, before the loop and in it
-lines-there : (b : tie.After-struct-known Inv-loop μ-loop) → (let s = b .before .before .before .before in Lined (s .args .shape) (s .args .layer) (b .before .before .layer-lines .result))
-lines-there b =
-    let s = b .before .before .before .before in
-    lined (s .args .shape) (s .args .layer) (b .before .before .layer-lines .result) (s .pre .0 .0) (s .pre .0 .1) (b .before .before .layer-lines .ensures)
-
+-- the layer's lines
 lines : (l : L) → Lined (Sh l) (K l) (N l)
-lines l = lines-there (l .before)
+lines l = l .before .before .before .layer-lines .ensures
 
 small : (l : L) → points (Sh l) ≤ pointsMost
 small l = accepted-yes (Sh l) (S l .pre .0 .0) .small
@@ -89,7 +85,7 @@ same l = l .loop .inv .1 (Sh l) (lines l) .same ∙ S l .pre .1 .0
 
 -- a line's coefficients are those at the start, whatever the shape
 ahead : (i : In) → (let l = i .before in (sh : Shape) → Lined sh (K l) (N l) → (j : ℕ) → j < N l .points
-    → at (l .loop .coefficients) (lineStart (N l) (l .loop .t) + j * N l .stride) ≡ at (Qs l) (pointOf sh (K l) (l .loop .t * N l .points + j)))
+    → at (l .loop .coefficients) (startIn (N l) (l .loop .t) + j * N l .stride) ≡ at (Qs l) (pointOf sh (K l) (l .loop .t * N l .points + j)))
 ahead i sh d j h =
     let l = i .before in
     let x = l .loop .t * N l .points + j in
@@ -108,7 +104,7 @@ weight-of-requires : tie.Need-weight-of-requires Inv-loop μ-loop
 weight-of-requires c κs = c .before .before .pre .0 .2
 
 mul-t-end : tie.Need-mul-t-end Inv-loop μ-loop
-mul-t-end c = omega (arith, lines-there c .few)
+mul-t-end c = omega (arith, c .before .before .layer-lines .ensures .few)
 
 loop-holds : tie.Need-loop-holds Inv-loop μ-loop
 loop-holds c =
@@ -129,14 +125,13 @@ add-line-requires : tie.Need-add-line-requires Inv-loop μ-loop
 add-line-requires c κs =
     let i = c .before .before .before in
     let l = i .before in
-    let ht = i .loop-test .taken in
-    let starts = c .line-start .ensures ∙ line-there (lines l) (l .loop .t) ht in (
+    let ht = i .loop-test .taken in (
       (omega (arith, room i, S l .pre .1 .2, plane-room (Sh l) (K l)), omega (arith, room i, size-most (Sh l) (K l), same l), rw (weight-is l) (omega (arith, weight-small (S l .args .p) (S l .pre .0 .2)))),
       (
-        lines l .some,
+        line-apart (Sh l) (K l) (lines l) (l .loop .t) ht,
         λ j h.
             let on = line-on (lines l) (l .loop .t) ht j h in
-            rw starts (omega (arith, on, same l), rw (ahead i (Sh l) (lines l) j h, lines l .point (l .loop .t) j ht h) (held-at (Qs l) (S l .pre .1 .1) (lineStart (N l) (l .loop .t) + j * N l .stride) (omega (arith, on, S l .pre .1 .0)))),
+            rw (c .line-start .ensures) (omega (arith, on, same l), rw (ahead i (Sh l) (lines l) j h, lines l .point (l .loop .t) j ht h) (held-at (Qs l) (S l .pre .1 .1) (startIn (N l) (l .loop .t) + j * N l .stride) (omega (arith, on, S l .pre .1 .0)))),
       ),
     )
 
@@ -158,7 +153,7 @@ loop-again c =
     let i = Turn c in
     let l = i .before in
     let s = S l in
-    let starts = c .before .before .line-start .ensures ∙ line-there (lines l) (l .loop .t) (i .loop-test .taken) in (
+    let starts = c .before .before .line-start .ensures in (
       omega (arith, i .loop-test .taken),
       λ sh d.
           scattered-line sh (K l) (F l sh) d (l .loop .t) (i .loop-test .taken) starts
@@ -176,7 +171,7 @@ returns c =
     let sh = Sh l in
     let k = K l in
     let end : l .loop .t ≡ N l .sheets * N l .lines = omega (arith, c .loop-test .left, l .loop .inv .0) in
-    let e : l .loop .t * N l .points ≡ layerSize sh k = ap (λ (x : ℕ). x * N l .points) end ∙ lines l .size in
+    let e : l .loop .t * N l .points ≡ layerSize sh k = ap (λ (x : ℕ). x * N l .points) end ∙ lines l .size ∙ size-there sh (S l .pre .0 .0) k (S l .pre .0 .1) in
     scattered-all sh k (F l sh) (λ p. With l (at (Qs l) p) (placeIn sh k p)) e (S l .pre .1 .0)
     (λ p h y. ap (λ (x : ℕ). With l (at (Qs l) x) (placeIn sh k p)) (point-place sh k p h y))
     (l .loop .inv .1 sh (lines l))

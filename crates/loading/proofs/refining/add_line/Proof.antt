@@ -17,7 +17,7 @@ use Rattle.digits.proofs.Range.{Holds, holds-yes, range-23}
 use Rattle.sheet.specs.Lists.{at}
 use Rattle.header.specs.Header.{placesMost}
 use Rattle.loading.specs.InBytes.{bitAt}
-use Rattle.loading.specs.Words.{Scattered}
+use Rattle.loading.specs.Workings.Words.{Scattered}
 use Rattle.loading.proofs.ZeroBits.{bit-most}
 use Rattle.loading.proofs.Weights.{digit-small}
 use Rattle.loading.proofs.Scatters.{scattered-none, scattered-more, line-new}
@@ -57,17 +57,17 @@ F l x = at (Qs l) (P l x) +ℤ pos (D l x) *ℤ toZ w32 (ofZ w32 (S l .args .sca
 spot : (i : In) → (let l = i .before in (P l (l .loop .j) < length (Qs l)) × (length (l .loop .coefficients) ≡ length (Qs l)))
 spot i = let l = i .before in (S l .pre .1 .1 (l .loop .j) (i .loop-test .taken) .0, l .loop .inv .1 .same)
 
-new : (l : L) (x : ℕ) → x < l .loop .j → P l x ≡ P l (l .loop .j) → ⊥
-new l x h = line-new (S l .args .first) (S l .args .stride) (S l .pre .1 .0) x (l .loop .j) h
+new : (i : In) (x : ℕ) → (let l = i .before in x < l .loop .j → P l x ≡ P l (l .loop .j) → ⊥)
+new i x h = let l = i .before in line-new (S l .args .first) (S l .args .stride) (S l .pre .1 .0 (omega (arith, i .loop-test .taken))) x (l .loop .j) h
 
 -- the coefficient whose turn it is
-old : (l : L) → at (l .loop .coefficients) (P l (l .loop .j)) ≡ at (Qs l) (P l (l .loop .j))
-old l = l .loop .inv .1 .kept (P l (l .loop .j)) (new l)
+old : (i : In) → (let l = i .before in at (l .loop .coefficients) (P l (l .loop .j)) ≡ at (Qs l) (P l (l .loop .j)))
+old i = let l = i .before in l .loop .inv .1 .kept (P l (l .loop .j)) (new i)
 
 held : (i : In) → (let l = i .before in Holds placesMost (at (l .loop .coefficients) (P l (l .loop .j))))
 held i =
     let l = i .before in
-    subst (Holds placesMost) (sym (old l)) (holds-yes placesMost (at (Qs l) (P l (l .loop .j))) (S l .pre .1 .1 (l .loop .j) (i .loop-test .taken) .1))
+    subst (Holds placesMost) (sym (old i)) (holds-yes placesMost (at (Qs l) (P l (l .loop .j))) (S l .pre .1 .1 (l .loop .j) (i .loop-test .taken) .1))
 
 loop-holds : tie.Need-loop-holds Inv-loop μ-loop
 loop-holds c = (omega arith, scattered-none _ _)
@@ -145,9 +145,9 @@ loop-again c =
     let i = c .before .before in
     let l = i .before in (
       omega (arith, i .loop-test .taken),
-      scattered-more (P l) (F l) _ (new l) (spot i .0)
+      scattered-more (P l) (F l) _ (new i) (spot i .0)
           (toZ-ofZ (add-coefficients c)
-          ∙ ap₂ (λ (x y : ℤ). x +ℤ y) (kept c ∙ old l)
+          ∙ ap₂ (λ (x y : ℤ). x +ℤ y) (kept c ∙ old i)
           (toZ-ofZ (mul-coefficients-2 c) ∙ ap₂ (λ (x y : ℤ). x *ℤ y) (toZ-pos w32 (cast-d (c .before) .sfits) ∙ ap (λ (x : ℕ). pos x) (c .before .bit-at .ensures)) refl))
           (l .loop .inv .1),
     )

@@ -11,17 +11,18 @@ use lib.IntN.{ℤ}
 use lib.ListN.{length}
 use Rattle.sheet.specs.Limits.{layersMost}
 use Rattle.sheet.specs.Sheet.{layerSize}
-use Rattle.header.specs.Header.{placesMost, cellBytes, cellsMost, planeCellsMost, planeCells}
+use Rattle.header.specs.Header.{placesMost, cellBytes, planeCells}
+use Rattle.header.specs.Workings.{cellsMost, planeCellsMost}
 use Rattle.order.specs.CardOrder.{cellsBefore}
 use Rattle.header.proofs.Cells.{size-there, cells-there}
 use Rattle.header.proofs.Rightness.{Right, right-yes, layers-few, few-planes}
 use Rattle.header.proofs.Total.{plane-room, plane-most}
 use Rattle.packing.specs.Planes.{allHeld}
 use Rattle.loading.specs.InBytes.{bitAt, fine, coefsPlus}
-use Rattle.loading.specs.Calls.{done}
+use Rattle.loading.specs.Workings.Calls.{done}
 use Rattle.loading.proofs.Loads.{loadable-right, loadable-here, loadable-full, before-is, fine-is, add-cut, add-unheld, add-bad, add-fine}
 use Rattle.layers.proofs.Answers.{full-long}
-use Rattle.loading.proofs.SlotOrder.{cells-few}
+use Rattle.order.proofs.Slots.{cells-few}
 use Rattle.loading.proofs.refining.add_named.Statement.{statement}
 use Rattle.loading.proofs.refining.add_named.Tie as tie
 

@@ -12,7 +12,7 @@ use Rattle.sheet.specs.Limits.{layersMost}
 use Rattle.sheet.specs.Sheet.{layers}
 use Rattle.sheet.proofs.Accepting.{count-is}
 use Rattle.header.proofs.Rightness.{right-yes, layers-few}
-use Rattle.loading.specs.Calls.{loadable}
+use Rattle.loading.specs.Workings.Calls.{loadable}
 use Rattle.loading.proofs.Loads.{loadable-right, add-not-loadable, add-past, add-unnamed}
 use Rattle.loading.proofs.refining.add_plane.Statement.{statement}
 use Rattle.loading.proofs.refining.add_plane.Tie as tie

@@ -12,8 +12,8 @@ use Rattle.sheet.specs.Sheet.{accepted, layers}
 use Rattle.sheet.proofs.Accepting.{accepted-yes, layers-few, count-is}
 use Rattle.header.specs.Header.{cellPoints}
 use Rattle.header.proofs.Cells.{cells-there}
-use Rattle.packing.specs.Words.{blockStart, wordsMost}
-use Rattle.loading.specs.Words.{spreadOver}
+use Rattle.packing.specs.Workings.Words.{blockStart, wordsMost}
+use Rattle.loading.specs.Workings.Words.{spreadOver}
 use Rattle.packing.proofs.Blocks.{block-none, block-next, layer-room, block-room}
 use Rattle.loading.proofs.Spreads.{SpreadTo, spread-none, spread-more, spread-all}
 use Rattle.loading.proofs.spreading.spread.Statement.{statement}

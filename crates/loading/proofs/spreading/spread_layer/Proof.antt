@@ -6,13 +6,16 @@ use lib.IntN.{ℤ}
 use lib.ListN.{length, getD}
 use denote.Ref.{now}
 use borrow.Author.Needs.{needs}
-use Rattle.digits.specs.Digits.{value, bitsOf}
+use Rattle.digits.specs.Digits.{value}
+use Rattle.digits.specs.Groups.{bitsOf}
 use Rattle.sheet.specs.declared.Shape.{Shape}
 use Rattle.sheet.specs.declared.Lines.{Lines}
 use Rattle.sheet.specs.Sheet.{points, layerSize, pointOf, placeIn}
-use Rattle.sheet.proofs.LinePoints.{Lined, lined, line-there, line-room, line-on}
-use Rattle.loading.specs.Words.{Scattered, spreadOver}
-use Rattle.loading.proofs.Scatters.{scattered-none, scattered-line, scattered-all}
+use Rattle.sheet.specs.Workings.Lines.{Lined}
+use Rattle.sheet.proofs.LinePoints.{line-room, line-on}
+use Rattle.header.proofs.Cells.{size-there}
+use Rattle.loading.specs.Workings.Words.{Scattered, spreadOver}
+use Rattle.loading.proofs.Scatters.{line-apart, scattered-none, scattered-line, scattered-all}
 use Rattle.loading.proofs.spreading.spread_layer.Statement.{statement}
 use Rattle.loading.proofs.spreading.spread_layer.Tie as tie
 
@@ -43,14 +46,9 @@ N l = l .before .before .layer-lines .result
 abbrev F : L → ℕ → ℤ
 F l i = value (bitsOf 32 (getD (now (S l .args .words)) (S l .args .start + i) 0))
 
--- the layer's lines, before the loop and in it
-lines-there : (b : tie.After-struct-known Inv-loop μ-loop) → (let s = b .before .before .before in Lined (s .args .shape) (s .args .layer) (b .before .layer-lines .result))
-lines-there b =
-    let s = b .before .before .before in
-    lined (s .args .shape) (s .args .layer) (b .before .layer-lines .result) (s .pre .1 .0 .0) (s .pre .1 .0 .1) (b .before .layer-lines .ensures)
-
+-- the layer's lines
 lines : (l : L) → Lined (Sh l) (S l .args .layer) (N l)
-lines l = lines-there (l .before)
+lines l = l .before .before .layer-lines .ensures
 
 room : (i : In) → (let l = i .before in S l .args .start + (l .loop .t * N l .points + N l .points) ≤ length (now (S l .args .words)))
 room i =
@@ -64,7 +62,7 @@ layer-lines-requires : tie.Need-layer-lines-requires Inv-loop μ-loop
 layer-lines-requires c κs = search needs
 
 mul-t-end : tie.Need-mul-t-end Inv-loop μ-loop
-mul-t-end c = omega (arith, lines-there c .few)
+mul-t-end c = omega (arith, c .before .layer-lines .ensures .few)
 
 loop-holds : tie.Need-loop-holds Inv-loop μ-loop
 loop-holds c =
@@ -84,8 +82,8 @@ spread-line-requires : tie.Need-spread-line-requires Inv-loop μ-loop
 spread-line-requires c κs =
     let i = c .before .before .before in
     let l = i .before in
-    let starts = c .line-start .ensures ∙ line-there (lines l) (l .loop .t) (i .loop-test .taken) in
-    ((S l .pre .0, omega (arith, room i), S l .pre .1 .1 .1), (lines l .some, λ j h. rw (same l, starts) (line-on (lines l) (l .loop .t) (i .loop-test .taken) j h)))
+    let ht = i .loop-test .taken in
+    ((S l .pre .0, omega (arith, room i), S l .pre .1 .1 .1), (line-apart (Sh l) (S l .args .layer) (lines l) (l .loop .t) ht, λ j h. rw (same l, c .line-start .ensures) (line-on (lines l) (l .loop .t) ht j h)))
 
 -- a turn
 abbrev C : Type 0
@@ -108,7 +106,7 @@ loop-again c =
     let at : (j : ℕ) → s .args .start + l .loop .t * N l .points + j ≡ s .args .start + (l .loop .t * N l .points + j) = λ j. omega arith in (
       omega (arith, i .loop-test .taken),
       λ sh d.
-          scattered-line sh (s .args .layer) (F l) d (l .loop .t) (i .loop-test .taken) (c .before .before .line-start .ensures ∙ line-there (lines l) (l .loop .t) (i .loop-test .taken))
+          scattered-line sh (s .args .layer) (F l) d (l .loop .t) (i .loop-test .taken) (c .before .before .line-start .ensures)
           (λ j h. ap (λ (x : ℕ). value (bitsOf 32 (getD (now (s .args .words)) x 0))) (at j))
           (l .loop .inv .1 sh d) (c .before .spread-line .ensures),
     )
@@ -123,7 +121,7 @@ returns c =
     let sh = Sh l in
     let k = S l .args .layer in
     let end : l .loop .t ≡ N l .sheets * N l .lines = omega (arith, c .loop-test .left, l .loop .inv .0) in
-    let e : l .loop .t * N l .points ≡ layerSize sh k = ap (λ (x : ℕ). x * N l .points) end ∙ lines l .size in
+    let e : l .loop .t * N l .points ≡ layerSize sh k = ap (λ (x : ℕ). x * N l .points) end ∙ lines l .size ∙ size-there sh (S l .pre .1 .0 .0) k (S l .pre .1 .0 .1) in
     scattered-all sh k (F l) (λ p. F l (placeIn sh k p)) e (S l .pre .1 .1 .0 .0) (λ p h y. refl) (l .loop .inv .1 sh (lines l))
 
 pub spread-layer-spec : {M : Type 1} → statement M

@@ -9,11 +9,12 @@ use denote.Ref.{now}
 use borrow.Author.Needs.{needs}
 use Rattle.integers.proofs.Diff.{#, via}
 use Rattle.integers.proofs.Machine.{sfits-by}
-use Rattle.digits.specs.Digits.{value, bitsOf, byGroups}
+use Rattle.digits.specs.Digits.{value}
+use Rattle.digits.specs.Groups.{bitsOf, byGroups}
 use Rattle.digits.proofs.Words.{bits-within}
 use Rattle.digits.proofs.Groups.{by-groups}
 use Rattle.layers.proofs.Results.{result-is}
-use Rattle.loading.specs.Words.{Scattered}
+use Rattle.loading.specs.Workings.Words.{Scattered}
 use Rattle.loading.proofs.Scatters.{scattered-none, scattered-more, line-new}
 use Rattle.loading.proofs.spreading.spread_line.Statement.{statement}
 use Rattle.loading.proofs.spreading.spread_line.Tie as tie
@@ -98,7 +99,7 @@ loop-again c =
     let i = c .before .before in
     let l = i .before in (
       omega (arith, i .loop-test .taken),
-      scattered-more (P l) (F l) _ (λ k h. line-new (S l .args .first) (S l .args .stride) (S l .pre .1 .0) k (l .loop .j) h) (spot i)
+      scattered-more (P l) (F l) _ (λ k h. line-new (S l .args .first) (S l .args .stride) (S l .pre .1 .0 (omega (arith, i .loop-test .taken))) k (l .loop .j) h) (spot i)
           (toZ-ofZ (cast-coefficients c) ∙ result-is (c .by-groups .ok) (number c)) (l .loop .inv .1),
     )
 

@@ -12,12 +12,13 @@ use Rattle.header.specs.declared.Header.{Header}
 use Rattle.header.specs.Header.{placesMost}
 use Rattle.header.specs.Plan.{loads}
 use Rattle.order.specs.CardOrder.{cellsBefore}
+use Rattle.order.specs.Workings.{slotNo}
 use Rattle.order.proofs.CardOrder.{first-place, next-place}
 use Rattle.header.proofs.Rightness.{Right, right-yes, few-planes}
 use Rattle.loading.specs.InBytes.{badSlot}
 use Rattle.loading.specs.declared.Placed.{Placed}
 use Rattle.loading.specs.declared.Placed.the-variants as Placed
-use Rattle.loading.specs.Words.{halves, halved, slotNo, Partly, FineBefore, PlaceRead}
+use Rattle.loading.specs.Workings.Words.{halves, halved, Partly, FineBefore, PlaceRead}
 use Rattle.loading.proofs.HalfBytes.{halves-down}
 use Rattle.loading.proofs.WordSums.{bad-is, none-is, partly-none, partly-all}
 use Rattle.loading.proofs.walking.load_body.Statement.{statement}

@@ -11,21 +11,24 @@ use lib.ListN.{length, getD}
 use denote.Ref.{now}
 use Rattle.sheet.specs.declared.Shape.{Shape}
 use Rattle.sheet.specs.Limits.{layersMost}
-use Rattle.sheet.specs.Sheet.{sizeAt, layers, layerSize}
+use Rattle.sheet.specs.Sheet.{layers, layerSize}
+use Rattle.sheet.specs.Workings.Shapes.{sizeAt}
 use Rattle.sheet.proofs.Accepting.{count-is}
 use Rattle.sheet.proofs.Lists.{getD-tabulate}
 use Rattle.header.specs.declared.Header.{Header}
-use Rattle.header.specs.Header.{placesMost, cellBytes, cellPoints, cellsMost, planesOf, planeCells, cellsAt, planeCellsMost}
+use Rattle.header.specs.Header.{placesMost, cellBytes, cellPoints, planesOf, planeCells}
+use Rattle.header.specs.Workings.{cellsMost, cellsAt, planeCellsMost}
 use Rattle.header.specs.Plan.{loads}
 use Rattle.order.specs.CardOrder.{cellsBefore}
+use Rattle.order.specs.Workings.{slotNo}
 use Rattle.header.proofs.Total.{plane-room, plane-most}
 use Rattle.header.proofs.Cells.{size-there, cells-there}
 use Rattle.header.proofs.Rightness.{Right, right-yes, layers-few, few-planes}
 use Rattle.loading.specs.InBytes.{badSlot}
-use Rattle.packing.specs.Words.{wordsMost, blockStart}
-use Rattle.loading.specs.Words.{slotWords, slotNo, Partly, FineBefore}
+use Rattle.packing.specs.Workings.Words.{wordsMost, blockStart}
+use Rattle.loading.specs.Workings.Words.{slotWords, Partly, FineBefore}
 use Rattle.packing.proofs.Blocks.{block-none, block-next, block-room}
-use Rattle.loading.proofs.SlotOrder.{cells-next, cells-few}
+use Rattle.order.proofs.Slots.{cells-next, cells-few}
 use Rattle.loading.proofs.SlotTests.{fine-same, words-same, slot-length}
 use Rattle.loading.proofs.WordSums.{fine-slot, partly-small, partly-next}
 use Rattle.loading.proofs.walking.load_place.Statement.{statement}

@@ -8,8 +8,8 @@ use denote.Ref.{now}
 use native.Mathlib.Numerals.{add-one}
 use lib.Dec.{eqb}
 use Rattle.header.specs.Header.{cellPoints}
-use Rattle.loading.specs.InBytes.{bitAt, fineBits, asked}
-use Rattle.loading.specs.Words.{added, wordsWith}
+use Rattle.loading.specs.InBytes.{bitAt, fineBits, amongTop}
+use Rattle.loading.specs.Workings.Words.{added, wordsWith}
 use Rattle.loading.proofs.PlaneSums.{with-zeros}
 use Rattle.loading.proofs.HalfBytes.{half-small, with-added}
 use Rattle.loading.proofs.SlotTests.{fine-zeros, asked-yes, asked-less, asked-out, slot-none, slot-bad, slot-good}
@@ -24,7 +24,7 @@ both e = (sym (e .0), sym (e .1))
 abbrev S : tie.Else2 → tie.Start
 S c = c .before .before .before .before
 
-is-asked : (c : tie.Else2) → asked (S c .args .count) (S c .args .want) (S c .args .p) ≡ true
+is-asked : (c : tie.Else2) → amongTop (S c .args .count) (S c .args .want) (S c .args .p) ≡ true
 is-asked c = asked-yes (S c .args .count) (S c .args .want) (S c .args .p) (omega arith) (omega arith)
 
 -- whether the plane is fine as the q-th of its layer, whose last is the top one

@@ -2,7 +2,7 @@
 use mathlib.Core.Path.{refl}
 use Prim.Native.Nat.{_-_, _≤_}
 use native.Mathlib.Omega.{arith}
-use Rattle.sheet.specs.Sheet.{sizeAt}
+use Rattle.sheet.specs.Workings.Shapes.{sizeAt}
 use Rattle.sheet.specs.Limits.{layersMost}
 use Rattle.header.proofs.Fills.{Filled, filled-none, filled-more, filled-all}
 use Rattle.loading.proofs.walking.sizes_of.Statement.{statement}

@@ -1,57 +1,63 @@
 -- The loop stores the planes of one place after another from the highest down: the planes of the places below `left` are still to be stored from `to` on, and storing them there gives what storing all of them at `at` gives. The measure is the places left.
 use mathlib.Core.Path.{_≡_, refl, sym, ap, ap₂, _∙_}
 use mathlib.Core.List.{List, [], _++_}
-use Prim.Native.Nat.{ℕ, _+_, _-_, _<_, _≤_}
+use Prim.Native.Nat.{ℕ, suc, _+_, _-_, _<_, _≤_}
 use native.Mathlib.Omega.{arith}
 use lib.ListN.{length, length-append}
 use lib.Seq.{sets, length-sets}
 use denote.Ref.{now}
-use Rattle.sheet.specs.declared.Shape.{Shape}
 use Rattle.sheet.specs.Sheet.{layers}
+use Rattle.header.specs.declared.Header.{Header}
 use Rattle.header.specs.Header.{placesMost}
+use Rattle.order.specs.CardOrder.{atPlace, downFrom, inOrder}
+use Rattle.order.proofs.Listed.{down-more}
 use Rattle.text.proofs.Stores.{sets-sets}
-use Rattle.packing.specs.Words.{flatPlace, flatDown}
-use Rattle.packing.proofs.FlatPlanes.{down-none, down-some}
+use Rattle.packing.specs.Workings.Words.{wordPlane}
 use Rattle.packing.proofs.putting.put_body.Statement.{statement}
 use Rattle.packing.proofs.putting.put_body.Tie as tie
 
 -- what is left: the planes of the places below `left`, from `to` on in `out`, which was d
-abbrev Left : Shape → List ℕ → List ℕ → List ℕ → ℕ → List ℕ → ℕ → ℕ → Type 0
-Left sh planes ws d at out left to =
+abbrev Left : Header → List ℕ → List ℕ → ℕ → List ℕ → ℕ → ℕ → Type 0
+Left h ws d at out left to =
     (left ≤ placesMost)
     × (length out ≡ length d)
-    × (to + length (flatDown sh planes ws left) ≡ at + length (flatDown sh planes ws placesMost))
-    × (sets out to (flatDown sh planes ws left) ≡ sets d at (flatDown sh planes ws placesMost))
+    × (to + length (downFrom h (wordPlane (h .shape) ws) left) ≡ at + length (inOrder h (wordPlane (h .shape) ws)))
+    × (sets out to (downFrom h (wordPlane (h .shape) ws) left) ≡ sets d at (inOrder h (wordPlane (h .shape) ws)))
 
-from-top : (sh : Shape) (planes ws d : List ℕ) (at left : ℕ) → left ≡ placesMost → Left sh planes ws d at d left at
-from-top sh planes ws d at left e = rw e (omega arith, refl, refl, refl)
+from-top : (h : Header) (ws d : List ℕ) (at left : ℕ) → left ≡ placesMost → Left h ws d at d left at
+from-top h ws d at left e = rw e (omega arith, refl, refl, refl)
 
 abbrev Inv-loop : tie.InvT-loop
-Inv-loop words shape planes out₀ at left₀ to₀ out left to = Left shape planes words out₀ at out left to
+Inv-loop words header out₀ at left₀ to₀ out left to = Left header words out₀ at out left to
 
 abbrev μ-loop : tie.MeasureT-loop
-μ-loop words shape planes out₀ at left₀ to₀ out left to = left
+μ-loop words header out₀ at left₀ to₀ out left to = left
 
 abbrev S : tie.At-loop Inv-loop μ-loop → tie.Start Inv-loop μ-loop
 S l = l .before .before .before
 
+abbrev H : tie.Start Inv-loop μ-loop → Header
+H s = s .args .header
+
 abbrev Places : tie.At-loop Inv-loop μ-loop → ℕ → List ℕ
-Places l n = flatDown (S l .args .shape) (S l .args .planes) (now (S l .args .words)) n
+Places l n = downFrom (H (S l)) (wordPlane (H (S l) .shape) (now (S l .args .words))) n
 
 -- the planes of the next place, and those below it
 next : tie.At-loop Inv-loop μ-loop → List ℕ
-next l = flatPlace (S l .args .shape) (S l .args .planes) (now (S l .args .words)) (l .loop .left - 1) (layers (S l .args .shape))
+next l = atPlace (H (S l)) (wordPlane (H (S l) .shape) (now (S l .args .words))) (l .loop .left - 1) (layers (H (S l) .shape))
 
 split : (l : tie.At-loop Inv-loop μ-loop) → 0 < l .loop .left → Places l (l .loop .left) ≡ next l ++ Places l (l .loop .left - 1)
 unfolding next
-split l h = down-some (S l .args .shape) (S l .args .planes) (now (S l .args .words)) (l .loop .left) h
+split l h =
+    let e : l .loop .left ≡ suc (l .loop .left - 1) = omega arith in
+    ap (Places l) e ∙ down-more (H (S l)) (wordPlane (H (S l) .shape) (now (S l .args .words))) (l .loop .left - 1)
 
 split-length : (l : tie.At-loop Inv-loop μ-loop) → 0 < l .loop .left → length (Places l (l .loop .left)) ≡ length (next l) + length (Places l (l .loop .left - 1))
 split-length l h = ap length (split l h) ∙ length-append (next l) (Places l (l .loop .left - 1))
 
 loop-holds : tie.Need-loop-holds Inv-loop μ-loop
 loop-holds c = let s = c .before .before in
-    from-top (s .args .shape) (s .args .planes) (now (s .args .words)) (now (s .args .out)) (s .args .at) _ (omega arith)
+    from-top (H s) (now (s .args .words)) (now (s .args .out)) (s .args .at) _ (omega arith)
 
 sub-left : tie.Need-sub-left Inv-loop μ-loop
 sub-left c = omega arith
@@ -86,10 +92,11 @@ same-length : tie.Need-same-length Inv-loop μ-loop
 same-length c = c .before .loop .inv .1
 
 returns : tie.Need-returns Inv-loop μ-loop
+unfolding downFrom
 returns c = let l = c .before in
     let s = S l in
     let none : l .loop .left ≡ 0 = omega arith in
-    let e : Places l (l .loop .left) ≡ [] = ap (Places l) none ∙ down-none (s .args .shape) (s .args .planes) (now (s .args .words)) in
+    let e : Places l (l .loop .left) ≡ [] = ap (Places l) none in
     (omega (arith, l .loop .inv .2, ap length e), sym (ap (sets (l .loop .out) (l .loop .to)) e) ∙ l .loop .inv .3)
 
 pub put-body-spec : {M : Type 1} → statement M

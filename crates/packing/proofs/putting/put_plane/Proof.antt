@@ -7,7 +7,7 @@ use lib.ListN.{length, getD, set, take}
 use lib.Seq.{sets, length-sets}
 use denote.Ref.{now}
 use Rattle.header.specs.Header.{cellBytes}
-use Rattle.packing.specs.Words.{flatPlane}
+use Rattle.packing.specs.Workings.Words.{flatPlane}
 use Rattle.text.proofs.Stores.{sets-next, sets-whole}
 use Rattle.packing.proofs.FlatPlanes.{flat-length, flat-byte}
 use Rattle.packing.proofs.putting.put_plane.Statement.{statement}

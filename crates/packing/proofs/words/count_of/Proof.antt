@@ -12,7 +12,7 @@ use Rattle.integers.proofs.Order.{eq-by}
 use Rattle.integers.proofs.Machine.{bits, cast, sfits-by}
 use Rattle.digits.specs.Digits.{fewest}
 use Rattle.header.specs.Header.{placesMost}
-use Rattle.packing.specs.Words.{offset, numberOf}
+use Rattle.packing.specs.Workings.Words.{offset, numberOf}
 use Rattle.packing.proofs.Counting.{Ends, ends-none, ends-more, count-over, count-is}
 use Rattle.packing.proofs.words.count_of.Statement.{statement}
 use Rattle.packing.proofs.words.count_of.Tie as tie

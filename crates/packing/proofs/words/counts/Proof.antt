@@ -12,7 +12,7 @@ use Rattle.sheet.specs.Sheet.{accepted, layers, layerSize}
 use Rattle.sheet.proofs.Accepting.{accepted-yes, layers-few, count-is}
 use Rattle.header.specs.Header.{cellPoints}
 use Rattle.header.proofs.Cells.{size-there, cells-there}
-use Rattle.packing.specs.Words.{blockStart, wordsMost, countOf}
+use Rattle.packing.specs.Workings.Words.{blockStart, wordsMost, countOf}
 use Rattle.packing.proofs.Blocks.{block-none, block-next, layer-room, block-room}
 use Rattle.packing.proofs.Counting.{CountedTo, counted-none, counted-more, counted-all}
 use Rattle.packing.proofs.words.counts.Statement.{statement}

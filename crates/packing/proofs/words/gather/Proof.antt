@@ -15,7 +15,7 @@ use Rattle.sheet.specs.Sheet.{accepted, layers, layerSize, pointOf}
 use Rattle.sheet.proofs.Accepting.{accepted-yes, layers-few, count-is}
 use Rattle.header.specs.Header.{cellPoints}
 use Rattle.header.proofs.Cells.{cells-there}
-use Rattle.packing.specs.Words.{wordOf, blockStart, wordsMost}
+use Rattle.packing.specs.Workings.Words.{wordOf, blockStart, wordsMost}
 use Rattle.packing.proofs.Blocks.{block-none, block-next, layer-room, block-room}
 use Rattle.packing.proofs.Gathers.{GatheredTo, gathered-none, gathered-more, gathered-all}
 use Rattle.packing.proofs.words.gather.Statement.{statement}

@@ -1,4 +1,4 @@
--- The loop's invariant: the words of the lines passed are stored from `start` on, as those of the first points of the layer. A line more is a run behind them (`sets-then`), by the law of where a layer's points stand (`Lined`). The shape is not live in the loop: the invariant holds for any whose lines these are.
+-- The loop's invariant: the words of the lines passed are stored from `start` on, as those of the first points of the layer. A line more is a run behind them (`sets-then`), by what the lines' numbers mean (`Lined`). The shape is not live in the loop: the invariant holds for any whose lines these are.
 use mathlib.Core.Path.{_≡_, _∙_, sym, ap}
 use Prim.Native.Nat.{ℕ, _+_, _-_, _*_, _≤_}
 use native.Mathlib.Omega.{arith}
@@ -10,8 +10,10 @@ use Rattle.sheet.specs.declared.Shape.{Shape}
 use Rattle.sheet.specs.declared.Lines.{Lines}
 use Rattle.sheet.specs.Lists.{at, tabulate}
 use Rattle.sheet.specs.Sheet.{layerSize, pointOf}
-use Rattle.sheet.proofs.LinePoints.{Lined, lined, line-there, line-room, line-on}
-use Rattle.packing.specs.Words.{wordOf}
+use Rattle.sheet.specs.Workings.Lines.{Lined}
+use Rattle.sheet.proofs.LinePoints.{line-room, line-on}
+use Rattle.header.proofs.Cells.{size-there}
+use Rattle.packing.specs.Workings.Words.{wordOf}
 use Rattle.packing.proofs.Runs.{sets-none, sets-then}
 use Rattle.packing.proofs.words.gather_layer.Statement.{statement}
 use Rattle.packing.proofs.words.gather_layer.Tie as tie
@@ -46,14 +48,9 @@ F l sh i = wordOf (at (now (S l .args .coefficients)) (pointOf sh (S l .args .la
 abbrev G : L → ℕ → ℕ → ℕ
 G l first j = wordOf (at (now (S l .args .coefficients)) (first + j * N l .stride))
 
--- the layer's lines, before the loop and in it
-lines-there : (b : tie.After-struct-known Inv-loop μ-loop) → (let s = b .before .before .before in Lined (s .args .shape) (s .args .layer) (b .before .layer-lines .result))
-lines-there b =
-    let s = b .before .before .before in
-    lined (s .args .shape) (s .args .layer) (b .before .layer-lines .result) (s .pre .0 .0) (s .pre .0 .1) (b .before .layer-lines .ensures)
-
+-- the layer's lines
 lines : (l : L) → Lined (Sh l) (S l .args .layer) (N l)
-lines l = lines-there (l .before)
+lines l = l .before .before .layer-lines .ensures
 
 same : (l : L) → length (l .loop .words) ≡ length (now (S l .args .words))
 same l = ap length (l .loop .inv .1 (Sh l) (lines l)) ∙ length-sets (now (S l .args .words)) (S l .args .start) (tabulate (l .loop .t * N l .points) (F l (Sh l)))
@@ -67,7 +64,7 @@ layer-lines-requires : tie.Need-layer-lines-requires Inv-loop μ-loop
 layer-lines-requires c κs = search needs
 
 mul-t-end : tie.Need-mul-t-end Inv-loop μ-loop
-mul-t-end c = omega (arith, lines-there c .few)
+mul-t-end c = omega (arith, c .before .layer-lines .ensures .few)
 
 loop-holds : tie.Need-loop-holds Inv-loop μ-loop
 loop-holds c =
@@ -88,7 +85,7 @@ gather-line-requires : tie.Need-gather-line-requires Inv-loop μ-loop
 gather-line-requires c κs =
     let i = c .before .before .before in
     let l = i .before in
-    (λ j h. rw (S l .pre .1 .0, c .before .before .line-start .ensures ∙ line-there (lines l) (l .loop .t) (i .loop-test .taken)) (line-on (lines l) (l .loop .t) (i .loop-test .taken) j h), omega (arith, room i))
+    (λ j h. rw (S l .pre .1 .0, c .before .before .line-start .ensures) (line-on (lines l) (l .loop .t) (i .loop-test .taken) j h), omega (arith, room i))
 
 -- a turn
 abbrev C : Type 0
@@ -110,7 +107,7 @@ loop-again c =
     let s = S l in
     let m = l .loop .t * N l .points in
     let n = N l .points in
-    let starts = c .before .before .before .before .before .line-start .ensures ∙ line-there (lines l) (l .loop .t) (i .loop-test .taken) in
+    let starts = c .before .before .before .before .before .line-start .ensures in
     let e : m + n ≡ (l .loop .t + 1) * n = omega arith in (
       omega (arith, i .loop-test .taken),
       λ sh d.
@@ -127,7 +124,7 @@ returns : tie.Need-returns Inv-loop μ-loop
 returns c =
     let l = c .before in
     let end : l .loop .t ≡ N l .sheets * N l .lines = omega (arith, c .loop-test .left, l .loop .inv .0) in
-    let e : l .loop .t * N l .points ≡ layerSize (Sh l) (S l .args .layer) = ap (λ (x : ℕ). x * N l .points) end ∙ lines l .size in
+    let e : l .loop .t * N l .points ≡ layerSize (Sh l) (S l .args .layer) = ap (λ (x : ℕ). x * N l .points) end ∙ lines l .size ∙ size-there (Sh l) (S l .pre .0 .0) (S l .args .layer) (S l .pre .0 .1) in
     l .loop .inv .1 (Sh l) (lines l) ∙ ap (λ (x : ℕ). sets (now (S l .args .words)) (S l .args .start) (tabulate x (F l (Sh l)))) e
 
 pub gather-layer-spec : {M : Type 1} → statement M

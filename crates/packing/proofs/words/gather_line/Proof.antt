@@ -9,7 +9,7 @@ use mir.Facts.{toZ-ofZ}
 use denote.Ref.{now}
 use borrow.Author.Needs.{needs, sfits-of}
 use Rattle.sheet.specs.Lists.{at, tabulate}
-use Rattle.packing.specs.Words.{wordOf}
+use Rattle.packing.specs.Workings.Words.{wordOf}
 use Rattle.packing.proofs.Runs.{sets-none, sets-more}
 use Rattle.packing.proofs.words.gather_line.Statement.{statement}
 use Rattle.packing.proofs.words.gather_line.Tie as tie

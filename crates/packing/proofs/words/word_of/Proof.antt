@@ -15,7 +15,7 @@ use Rattle.integers.proofs.Order.{eq-by}
 use Rattle.digits.specs.Digits.{holds}
 use Rattle.digits.proofs.Range.{range-23, holds-yes, holds-by}
 use Rattle.header.specs.Header.{placesMost}
-use Rattle.packing.specs.Words.{offset, wordOf}
+use Rattle.packing.specs.Workings.Words.{offset, wordOf}
 use Rattle.packing.proofs.words.word_of.Statement.{statement}
 use Rattle.packing.proofs.words.word_of.Tie as tie
 

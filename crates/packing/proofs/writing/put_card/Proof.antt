@@ -8,7 +8,7 @@ use borrow.Author.Needs.{needs}
 use denote.Ref.{now}
 use lib.IntN.{ℤ}
 use lib.ListN.{length, getD, replicate}
-use Rattle.text.specs.Text.{after, putting}
+use Rattle.text.specs.Workings.{after, putting}
 use Rattle.sheet.specs.Limits.{layersMost}
 use Rattle.sheet.specs.Lists.{at}
 use Rattle.sheet.specs.Sheet.{accepted, points}
@@ -18,7 +18,7 @@ use Rattle.header.specs.Header.{placesMost}
 use Rattle.header.specs.Plan.{firstOver}
 use Rattle.header.proofs.Over.{over-le}
 use Rattle.packing.specs.Planes.{allHeld}
-use Rattle.packing.proofs.Cards.{card-unheld, made-right, made-long, card-is}
+use Rattle.packing.proofs.Cards.{card-unheld, made-right, card-is}
 use Rattle.packing.proofs.HeldWords.{held-each, held-none, held-all}
 use Rattle.packing.proofs.writing.put_card.Statement.{statement}
 use Rattle.packing.proofs.writing.put_card.Tie as tie
@@ -89,10 +89,8 @@ put-words-requires : tie.Need-put-words-requires
 put-words-requires c κs =
     let t = c .before .before in
     let a = s t in
-    let gathered = g t .gather .ensures in (
-      (made-right (a .args .shape) (a .args .step) (a .pre .0) (a .args .curve) (Qs a) (a .pre .1) (held t) (each t) _ gathered _ (n t .counts .ensures) _ (t .total-cells .ensures), gathered .long),
-      made-long (a .args .shape) (a .args .step) (a .pre .0) (a .args .curve) (Qs a) (a .pre .1) (held t) (each t) _ gathered _ (n t .counts .ensures) _ (t .total-cells .ensures),
-    )
+    let gathered = g t .gather .ensures in
+    (made-right (a .args .shape) (a .args .step) (a .pre .0) (a .args .curve) (Qs a) (a .pre .1) (held t) (each t) _ gathered _ (n t .counts .ensures) _ (t .total-cells .ensures), gathered .long)
 
 same-length-2 : tie.Need-same-length-2
 same-length-2 c = search needs

@@ -7,15 +7,16 @@ use borrow.Author.Needs.{needs}
 use denote.Ref.{now}
 use Rattle.text.proofs.Padding.{padded-room, padded-take}
 use Rattle.header.specs.declared.HeaderText.{HeaderText}
-use Rattle.header.specs.Header.{textMost, headerText}
+use Rattle.header.specs.Header.{headerText}
+use Rattle.header.specs.Workings.{textMost}
 use Rattle.header.proofs.Rightness.{right-yes}
-use Rattle.packing.proofs.Cards.{flat-few, flat-none, flat-all}
+use Rattle.packing.proofs.Cards.{planes-long, flat-few, flat-none, flat-all}
 use Rattle.packing.proofs.writing.put_words.Statement.{statement}
 use Rattle.packing.proofs.writing.put_words.Tie as tie
 
 module _ (c : tie.After-header-text) where
   abbrev S : tie.Start
-  S = c .before .before .before .before
+  S = c .before .before .before
 
   text-is : take (c .header-text .result .length) (c .header-text .result .bytes) ≡ headerText (S .args .header)
   text-is = ap (λ (t : HeaderText). take (t .length) (t .bytes)) (c .header-text .ensures) ∙ padded-take textMost (headerText (S .args .header))
@@ -32,18 +33,18 @@ header-text-requires c κs = search needs
 mul-if1 : tie.Need-mul-if1
 mul-if1 c =
     let s = S (c .before) in
-    omega (arith, flat-few (s .args .header) (s .pre .0 .0) (now (s .args .words)) (s .pre .1) (now (s .args .output)))
+    omega (arith, flat-few (s .args .header) (s .pre .0) (now (s .args .words)))
 
 add-if1 : tie.Need-add-if1
 add-if1 c =
     let s = S (c .before) in
-    omega (arith, long-is (c .before), flat-few (s .args .header) (s .pre .0 .0) (now (s .args .words)) (s .pre .1) (now (s .args .output)))
+    omega (arith, long-is (c .before), flat-few (s .args .header) (s .pre .0) (now (s .args .words)))
 
 returns : tie.Need-returns
 returns c =
     let t = c .before .before in
     let s = S t in
-    flat-none (s .args .header) (s .pre .0 .0) (now (s .args .words)) (s .pre .1) (now (s .args .output)) (omega (arith, c .if1 .taken, long-is t))
+    flat-none (s .args .header) (s .pre .0) (now (s .args .words)) (now (s .args .output)) (omega (arith, c .if1 .taken, long-is t))
 
 array-share-prefix-bytes : tie.Need-array-share-prefix-bytes
 array-share-prefix-bytes c = within (c .before .before .before)
@@ -60,7 +61,7 @@ put-body-requires c κs =
     let e = p .before .before .before in
     let t = e .before .before in
     let s = S t in
-    ((right-yes (s .args .header) (s .pre .0 .0) .shape, s .pre .0 .1), omega (arith, e .if1 .left, long-is t, s .pre .1, p .put .kept .0))
+    ((right-yes (s .args .header) (s .pre .0) .shape, s .pre .1), omega (arith, e .if1 .left, long-is t, planes-long (s .args .header) (s .pre .0) (now (s .args .words)), p .put .kept .0))
 
 same-length : tie.Need-same-length
 same-length c = search needs
@@ -73,7 +74,7 @@ returns-2 c =
     let t = e .before .before in
     let s = S t in
     let n = long-is t in
-    flat-all (s .args .header) (s .pre .0 .0) (now (s .args .words)) (s .pre .1) (now (s .args .output)) (omega (arith, e .if1 .left, n)) _ _ _
+    flat-all (s .args .header) (s .pre .0) (now (s .args .words)) (now (s .args .output)) (omega (arith, e .if1 .left, n)) _ _ _
     (rw (text-is t) at (p .put .ensures .1))
     (rw n at (b .put-body .ensures .0))
     (rw n at (b .put-body .ensures .1))

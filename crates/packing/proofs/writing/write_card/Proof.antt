@@ -10,12 +10,12 @@ use denote.Ref.{now}
 use lib.Dec.{leb}
 use lib.ListN.{replicate}
 use Rattle.integers.proofs.Bools.{and-both}
-use Rattle.layers.specs.Calls.{settled}
+use Rattle.layers.specs.Workings.Calls.{settled}
 use Rattle.sheet.specs.Limits.{stepMost}
 use Rattle.sheet.specs.Sheet.{accepted, points}
 use Rattle.sheet.proofs.Accepting.{points-in}
 use Rattle.layers.proofs.Answers.{full-yes, full-no}
-use Rattle.packing.specs.Words.{wordsMost}
+use Rattle.packing.specs.Workings.Words.{wordsMost}
 use Rattle.packing.proofs.Cards.{card-unshaped, card-unstepped, card-unfilled}
 use Rattle.packing.proofs.writing.write_card.Statement.{statement}
 use Rattle.packing.proofs.writing.write_card.Tie as tie

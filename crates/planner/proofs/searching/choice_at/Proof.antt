@@ -4,11 +4,11 @@ use Prim.Native.Nat.{ℕ, _+_, _-_, _*_, _≤_}
 use native.Mathlib.Omega.{arith}
 use borrow.Author.Needs.{needs}
 use lib.ListN.{getD}
-use Rattle.header.specs.Header.{cellsAt}
+use Rattle.header.specs.Workings.{cellsAt}
 use Rattle.header.proofs.Rightness.{right-yes}
-use Rattle.figure.specs.Figure.{carryOf, chargeOf}
+use Rattle.figure.specs.Workings.{carryOf, chargeOf}
 use Rattle.figure.proofs.LayerRules.{carried-told, carry-double, charge-told, charge-most}
-use Rattle.planner.specs.Table.{layersOf, rowLength, none, best}
+use Rattle.planner.specs.Workings.Table.{layersOf, rowLength, none, best}
 use Rattle.planner.proofs.Entries.{choice-over, best-most}
 use Rattle.planner.proofs.Passing.{used-fits}
 use Rattle.planner.proofs.WalkBack.{choice-read}

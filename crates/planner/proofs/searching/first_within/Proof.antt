@@ -5,7 +5,7 @@ use borrow.Author.Count.{below-none, below-more}
 use borrow.Author.Needs.{needs}
 use lib.ListN.{getD}
 use Rattle.header.specs.Plan.{layersMost}
-use Rattle.planner.specs.Table.{rowLength}
+use Rattle.planner.specs.Workings.Table.{rowLength}
 use Rattle.planner.proofs.LastRow.{first-here, first-last}
 use Rattle.planner.proofs.searching.first_within.Statement.{statement}
 use Rattle.planner.proofs.searching.first_within.Tie as tie

@@ -6,7 +6,7 @@ use native.Mathlib.Omega.{arith}
 use borrow.Author.Needs.{needs}
 use lib.ListN.{getD}
 use Rattle.header.specs.Plan.{layersMost}
-use Rattle.planner.specs.Table.{rowLength}
+use Rattle.planner.specs.Workings.Table.{rowLength}
 use Rattle.planner.proofs.LastRow.{LeastBelow, least-start, least-moves, least-stays, least-all}
 use Rattle.planner.proofs.searching.least_within.Statement.{statement}
 use Rattle.planner.proofs.searching.least_within.Tie as tie

@@ -6,7 +6,7 @@ use borrow.Author.Needs.{needs}
 use lib.ListN.{length}
 use Rattle.header.specs.Plan.{layersMost}
 use Rattle.planner.specs.Planning.{bestByCells}
-use Rattle.planner.specs.Table.{layersOf, LeastWithin, rowLength, none, best}
+use Rattle.planner.specs.Workings.Table.{layersOf, LeastWithin, rowLength, none, best}
 use Rattle.planner.proofs.LastRow.{least-best}
 use Rattle.planner.proofs.Final.{by-cells, cells-reached}
 use Rattle.planner.proofs.PlanCall.{found-answer}

@@ -5,7 +5,7 @@ use borrow.Author.Needs.{needs}
 use lib.ListN.{length}
 use Rattle.header.specs.Plan.{layersMost}
 use Rattle.planner.specs.Planning.{bestByLimit}
-use Rattle.planner.specs.Table.{layersOf, FirstWithin, none, best}
+use Rattle.planner.specs.Workings.Table.{layersOf, FirstWithin, none, best}
 use Rattle.planner.proofs.LastRow.{first-best}
 use Rattle.planner.proofs.Final.{by-limit, limit-reached}
 use Rattle.planner.proofs.PlanCall.{found-answer}

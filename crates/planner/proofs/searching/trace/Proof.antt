@@ -5,9 +5,9 @@ use Prim.Native.Nat.{ℕ, suc, _-_, _*_, _≤_}
 use native.Mathlib.Omega.{arith}
 use borrow.Author.Needs.{needs}
 use lib.ListN.{getD}
-use Rattle.header.specs.Header.{cellsAt}
+use Rattle.header.specs.Workings.{cellsAt}
 use Rattle.header.proofs.Cells.{span-listed}
-use Rattle.planner.specs.Table.{layersOf}
+use Rattle.planner.specs.Workings.Table.{layersOf}
 use Rattle.planner.proofs.RisingCarry.{header-rising}
 use Rattle.planner.proofs.WalkBack.{Walked, walk-start, walk-more, walk-done}
 use Rattle.planner.proofs.searching.trace.Statement.{statement}

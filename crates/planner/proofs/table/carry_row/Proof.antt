@@ -7,9 +7,9 @@ use borrow.Author.Count.{below-none, below-more}
 use borrow.Author.Needs.{needs}
 use lib.ListN.{length, getD, length-set}
 use lib.Seq.{getD-set-same, getD-set-other}
-use Rattle.figure.specs.Figure.{carriedIn, carryOf}
+use Rattle.figure.specs.Workings.{carriedIn, carryOf}
 use Rattle.figure.proofs.LayerRules.{carried-told}
-use Rattle.planner.specs.Table.{layersOf, rowLength}
+use Rattle.planner.specs.Workings.Table.{layersOf, rowLength}
 use Rattle.planner.proofs.Entries.{best-most}
 use Rattle.planner.proofs.table.carry_row.Statement.{statement}
 use Rattle.planner.proofs.table.carry_row.Tie as tie

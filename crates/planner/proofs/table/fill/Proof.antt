@@ -6,10 +6,11 @@ use native.Mathlib.Numerals.{add-one}
 use native.Mathlib.Omega.{arith}
 use borrow.Author.Needs.{needs}
 use lib.ListN.{length, getD, length-replicate}
-use Rattle.header.specs.Header.{cellsMost, planesOf, cellsAt}
+use Rattle.header.specs.Header.{planesOf}
+use Rattle.header.specs.Workings.{cellsMost, cellsAt}
 use Rattle.header.specs.Plan.{layersMost}
 use Rattle.header.proofs.Cells.{span-listed}
-use Rattle.planner.specs.Table.{layersOf, Rows, cells, reach, none, rowLength, tableLength}
+use Rattle.planner.specs.Workings.Table.{layersOf, Rows, cells, reach, none, rowLength, tableLength}
 use Rattle.planner.proofs.Entries.{reach-most}
 use Rattle.planner.proofs.Filling.{rows-start}
 use Rattle.planner.proofs.table.fill.Statement.{statement}

@@ -5,7 +5,7 @@ use native.Mathlib.Numerals.{add-one}
 use native.Mathlib.Omega.{arith}
 use Rattle.header.specs.Header.{placesMost, planesOf}
 use Rattle.header.proofs.Rightness.{right-yes, counts-few}
-use Rattle.planner.specs.Table.{layersOf, Tried}
+use Rattle.planner.specs.Workings.Table.{layersOf, Tried}
 use Rattle.planner.proofs.Filling.{tried-none, tried-all}
 use Rattle.planner.proofs.table.fill_row.Statement.{statement}
 use Rattle.planner.proofs.table.fill_row.Tie as tie

@@ -4,11 +4,11 @@ use Prim.Native.Nat.{ℕ, _+_, _-_, _*_, _^_, _≤_, _<_}
 use native.Mathlib.Omega.{arith}
 use borrow.Author.Needs.{needs}
 use lib.ListN.{length, getD}
-use Rattle.header.specs.Header.{cellsMost, cellsAt}
+use Rattle.header.specs.Workings.{cellsMost, cellsAt}
 use Rattle.header.proofs.Rightness.{right-yes}
-use Rattle.figure.specs.Figure.{chargeOf}
+use Rattle.figure.specs.Workings.{chargeOf}
 use Rattle.figure.proofs.LayerRules.{carry-double, charge-told, charge-most}
-use Rattle.planner.specs.Table.{layersOf, rowLength, none, best}
+use Rattle.planner.specs.Workings.Table.{layersOf, rowLength, none, best}
 use Rattle.planner.proofs.RisingCarry.{header-rising}
 use Rattle.planner.proofs.Entries.{best-most}
 use Rattle.planner.proofs.Passing.{Passed, pass-none, pass-more, pass-as, tried-more, used-fits}

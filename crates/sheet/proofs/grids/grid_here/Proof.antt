@@ -1,7 +1,7 @@
 -- The grid of the direction and the spacing that the two calls before it give.
 use mathlib.Core.Path.{_∙_, ap₂}
 use borrow.Author.Needs.{needs}
-use Rattle.sheet.specs.Lines.{gridFor}
+use Rattle.sheet.specs.Workings.Lines.{gridFor}
 use Rattle.sheet.proofs.Accepting.{accepted-yes}
 use Rattle.sheet.proofs.Fits.{spacing-small}
 use Rattle.sheet.proofs.grids.grid_here.Statement.{statement}

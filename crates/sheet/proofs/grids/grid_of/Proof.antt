@@ -2,8 +2,8 @@
 use mathlib.Core.Path.{_≡_, sym, _∙_}
 use mathlib.Core.Bool.{true}
 use borrow.Author.Needs.{needs}
-use Rattle.sheet.specs.Sheet.{hasLayer}
-use Rattle.sheet.specs.Lines.{gridAt}
+use Rattle.sheet.specs.Workings.Shapes.{hasLayer}
+use Rattle.sheet.specs.Workings.Lines.{gridAt}
 use Rattle.sheet.proofs.Accepting.{layer-yes}
 use Rattle.sheet.proofs.grids.grid_of.Statement.{statement}
 use Rattle.sheet.proofs.grids.grid_of.Tie as tie

@@ -5,7 +5,8 @@ use native.Mathlib.Nat.{mul-le-mul-right}
 use native.Mathlib.Omega.{arith}
 use borrow.Author.Needs.{needs}
 use Rattle.sheet.specs.declared.Shape.{Shape}
-use Rattle.sheet.specs.Sheet.{directions, layerCount}
+use Rattle.sheet.specs.Sheet.{directions}
+use Rattle.sheet.specs.Workings.Shapes.{layerCount}
 use Rattle.sheet.proofs.Accepting.{two-three}
 use Rattle.sheet.proofs.shapes.layer_count.Statement.{statement}
 use Rattle.sheet.proofs.shapes.layer_count.Tie as tie

@@ -4,7 +4,8 @@ use mathlib.Core.Bool.{true}
 use native.Mathlib.Omega.{arith}
 use borrow.Author.Needs.{needs}
 use borrow.Author.Tests.{not-true, not-false}
-use Rattle.sheet.specs.Sheet.{accepted, pointsIn}
+use Rattle.sheet.specs.Sheet.{accepted}
+use Rattle.sheet.specs.Workings.Shapes.{pointsIn}
 use Rattle.sheet.proofs.Accepting.{Sheet, accepted-yes, points-in}
 use Rattle.sheet.proofs.Fits.{lines-small}
 use Rattle.sheet.proofs.shapes.points.Statement.{statement}

@@ -1,7 +1,7 @@
 -- The tests in turn.
 use native.Mathlib.Omega.{arith}
 use borrow.Author.Tests.{lt-ltb, le-ltb, le-leb, lt-leb}
-use Rattle.sheet.specs.Lines.{near}
+use Rattle.sheet.specs.Workings.Lines.{near}
 use Rattle.sheet.proofs.sizes.is_near.Statement.{statement}
 use Rattle.sheet.proofs.sizes.is_near.Tie as tie
 

@@ -6,7 +6,7 @@ use native.Mathlib.Omega.{arith}
 use borrow.Author.Needs.{needs}
 use borrow.Author.Tests.{not-true, not-false}
 use Rattle.sheet.specs.declared.Lines.{Lines}
-use Rattle.sheet.specs.Lines.{lineStart, startIn}
+use Rattle.sheet.specs.Workings.Lines.{lineStart, startIn}
 use Rattle.sheet.proofs.Starts.{Near, near-yes, start-is, along-most, beyond-most, within-most}
 use Rattle.sheet.proofs.sizes.line_start.Statement.{statement}
 use Rattle.sheet.proofs.sizes.line_start.Tie as tie

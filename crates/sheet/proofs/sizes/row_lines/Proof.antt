@@ -13,7 +13,8 @@ use Rattle.sheet.specs.declared.Direction.{Direction}
 use Rattle.sheet.specs.declared.Direction.the-variants.{Anchor, Across, Down, Between}
 use Rattle.sheet.specs.Limits.{pointsMost, depthMost, levelsMost}
 use Rattle.sheet.specs.Sheet.{accepted, layers, direction, spacing}
-use Rattle.sheet.specs.Lines.{gridFor, linesOn, rowLines}
+use Rattle.sheet.specs.Workings.Shapes.{hasLayer}
+use Rattle.sheet.specs.Workings.Lines.{gridFor, linesOn, rowLines}
 use Rattle.sheet.proofs.Accepting.{Sheet, accepted-yes, layer-yes}
 use Rattle.sheet.proofs.Fits.{spacing-small, rows-small, cols-small}
 use Rattle.sheet.proofs.OnGrid.{Good, layer-good}
@@ -44,8 +45,11 @@ returns c = simp (sym (c .before .has-layer .ensures) ∙ not-true (c .before .h
 abbrev A : tie.Else1 → tie.Start
 A e = e .before .before
 
+there : (e : tie.Else1) → hasLayer (A e .args .shape) (A e .args .layer) ≡ true
+there e = sym (e .before .has-layer .ensures) ∙ not-false (e .before .has-layer .result) (e .if1 .left)
+
 here : (e : tie.Else1) → (accepted (A e .args .shape) ≡ true) × (A e .args .layer < layers (A e .args .shape))
-here e = layer-yes (A e .args .shape) (A e .args .layer) (sym (e .before .has-layer .ensures) ∙ not-false (e .before .has-layer .result) (e .if1 .left))
+here e = layer-yes (A e .args .shape) (A e .args .layer) (there e)
 
 ok : (e : tie.Else1) → Sheet (A e .args .shape)
 ok e = accepted-yes (A e .args .shape) (here e .0)
@@ -147,7 +151,7 @@ returns-2 c =
     let m = c .steps3 .ensures in
     same-lines _ (linesOn (a .args .shape) (G t)) (omega arith) (omega (arith, i)) (omega arith) (omega (arith, n)) (omega arith) (omega (arith, m)) (omega arith)
     ∙ ap (linesOn (a .args .shape)) (t .grid-here .ensures)
-    ∙ sym (lines-here (a .args .shape) (a .args .layer) (here (E t) .0) (here (E t) .1))
+    ∙ sym (lines-here (a .args .shape) (a .args .layer) (there (E t)))
 
 pub row-lines-spec : {M : Type 1} → statement M
 row-lines-spec =

@@ -4,7 +4,7 @@ use native.Mathlib.Nat.{div-le-self}
 use native.Mathlib.Omega.{arith}
 use borrow.Author.Needs.{needs}
 use borrow.Author.Tests.{lt-ltb, le-ltb}
-use Rattle.sheet.specs.Lines.{steps}
+use Rattle.sheet.specs.Workings.Lines.{steps}
 use Rattle.sheet.proofs.sizes.steps.Statement.{statement}
 use Rattle.sheet.proofs.sizes.steps.Tie as tie
 

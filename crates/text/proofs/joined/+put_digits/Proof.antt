@@ -5,7 +5,7 @@ use Prim.Native.Nat.{ℕ, _+_, _/_, _%_, _<_, _≤_}
 use native.Mathlib.Omega.{arith}
 use lib.ListN.{length, set, length-set}
 use lib.Seq.{sets}
-use Rattle.text.specs.Decimal.{zeroCharacter, digits}
+use Rattle.text.specs.Decimal.{zeroCharacter, decimal}
 use Rattle.text.proofs.Digits.{one, two, length-one, length-two}
 use Rattle.text.proofs.Stores.{Put, put-byte}
 use borrow.Fn.Kinds.{In}
@@ -28,12 +28,12 @@ put-digits-below t =
     and 1 put-digits-kinds.ps (falls 1 put-digits-kinds.ps _<_ μ-put-digits t) put-digits.Pre
 
 -- ---- what is put
-one-put : (d : List ℕ) (at n : ℕ) → n < 10 → (at + 1 ≡ at + length (digits n)) × (set d at (zeroCharacter + n) ≡ sets d at (digits n))
+one-put : (d : List ℕ) (at n : ℕ) → n < 10 → (at + 1 ≡ at + length (decimal n)) × (set d at (zeroCharacter + n) ≡ sets d at (decimal n))
 one-put d at n h = rw (one h) (refl, refl)
 
-more-put : (d out : List ℕ) (at n end : ℕ) → 10 ≤ n → end ≡ at + length (digits (n / 10)) → out ≡ sets d at (digits (n / 10)) → (end + 1 ≡ at + length (digits n)) × (set out end (zeroCharacter + n % 10) ≡ sets d at (digits n))
+more-put : (d out : List ℕ) (at n end : ℕ) → 10 ≤ n → end ≡ at + length (decimal (n / 10)) → out ≡ sets d at (decimal (n / 10)) → (end + 1 ≡ at + length (decimal n)) × (set out end (zeroCharacter + n % 10) ≡ sets d at (decimal n))
 more-put d out at n end h e o =
-    let p : Put d at (digits (n / 10)) out end = record { ends = e; stands = o } in
+    let p : Put d at (decimal (n / 10)) out end = record { ends = e; stands = o } in
     let q = put-byte (zeroCharacter + n % 10) p in
     rw (two h) (q .ends, q .stands)
 

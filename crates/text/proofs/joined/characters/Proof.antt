@@ -3,13 +3,13 @@ use mathlib.Core.Path.{_≡_}
 use Prim.Native.Nat.{_+_}
 use native.Mathlib.Omega.{arith}
 use lib.ListN.{length}
-use Rattle.text.specs.Decimal.{digits}
+use Rattle.text.specs.Decimal.{decimal}
 use Rattle.text.proofs.Digits.{length-one, length-two, length-most}
 use Rattle.text.proofs.joined.characters.Statement.{statement}
 use Rattle.text.proofs.joined.characters.Tie as tie
 
 abbrev Inv-loop : tie.InvT-loop
-Inv-loop n count₀ rest₀ count rest = count + length (digits rest) ≡ length (digits n) + 1
+Inv-loop n count₀ rest₀ count rest = count + length (decimal rest) ≡ length (decimal n) + 1
 
 abbrev μ-loop : tie.MeasureT-loop
 μ-loop n count₀ rest₀ count rest = rest

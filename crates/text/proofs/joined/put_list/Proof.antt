@@ -5,7 +5,7 @@ use Prim.Native.Nat.{ℕ, _+_, _-_, _≤_, _<_}
 use native.Mathlib.Omega.{arith}
 use lib.ListN.{length, take, getD, length-set}
 use lib.Seq.{sets, take-length}
-use Rattle.text.specs.Decimal.{digits}
+use Rattle.text.specs.Decimal.{decimal}
 use Rattle.text.specs.Joined.{comma, joined}
 use Rattle.text.proofs.Stores.{Put, put-none, put-more, put-byte}
 use Rattle.text.proofs.Joins.{joined-none, joined-one, joined-more, joined-longer, joined-rises}
@@ -35,7 +35,7 @@ Ns e = S e .args .numbers .now
 some-are : (e : tie.Else1 Inv-loop μ-loop) → 0 < length (Ns e)
 some-are e = omega (arith, e .if1 .left)
 
-one : (e : tie.Else1 Inv-loop μ-loop) → joined (take 1 (Ns e)) ≡ digits (getD (Ns e) 0 0)
+one : (e : tie.Else1 Inv-loop μ-loop) → joined (take 1 (Ns e)) ≡ decimal (getD (Ns e) 0 0)
 one e = joined-one (Ns e) (some-are e)
 
 -- all of them fit
@@ -60,7 +60,7 @@ loop-holds c =
     (omega arith, some-are (E f), refl, omega (arith, f .put-digits .ensures .0, ap length (one (E f))), λ d p. p)
 
 -- a number more still fits
-more : (c : tie.In-loop Inv-loop μ-loop) → c .before .loop .end + 1 + length (digits (getD (Ns (E (F (c .before)))) (c .before .loop .i) 0)) ≤ length (c .before .loop .out)
+more : (c : tie.In-loop Inv-loop μ-loop) → c .before .loop .end + 1 + length (decimal (getD (Ns (E (F (c .before)))) (c .before .loop .i) 0)) ≤ length (c .before .loop .out)
 more c =
     let l = c .before in
     let e = E (F l) in
@@ -115,7 +115,7 @@ loop-again c =
       omega (arith, below),
       n .put-digits2 .kept .0 ∙ simp length-set (l .loop .inv .2),
       omega (arith, joined-longer ns i (l .loop .inv .0) below, n .put-digits2 .ensures .0, l .loop .inv .3),
-      λ d p. rw (joined-more ns i (l .loop .inv .0) below) (put-more (digits (getD ns i 0)) _ _ (put-byte comma (l .loop .inv .4 d p)) (n .put-digits2 .ensures .0) (n .put-digits2 .ensures .1)),
+      λ d p. rw (joined-more ns i (l .loop .inv .0) below) (put-more (decimal (getD ns i 0)) _ _ (put-byte comma (l .loop .inv .4 d p)) (n .put-digits2 .ensures .0) (n .put-digits2 .ensures .1)),
     )
 
 same-length : tie.Need-same-length Inv-loop μ-loop
@@ -128,7 +128,7 @@ returns-2 c =
     let s = S e in
     let end : l .loop .i ≡ length (Ns e) = omega (arith, l .loop .inv .1, c .loop-test .left) in
     let all = ap (λ (k : ℕ). take k (Ns e)) end ∙ take-length (Ns e) in
-    let first = put-more (digits (getD (Ns e) 0 0)) _ _ (put-none (s .args .out .now) (s .args .at)) (F l .put-digits .ensures .0) (F l .put-digits .ensures .1) in
+    let first = put-more (decimal (getD (Ns e) 0 0)) _ _ (put-none (s .args .out .now) (s .args .at)) (F l .put-digits .ensures .0) (F l .put-digits .ensures .1) in
     let p = l .loop .inv .4 (s .args .out .now) (rw (one e) first) in
     (p .ends ∙ ap (λ (x : List ℕ). s .args .at + length (joined x)) all, p .stands ∙ ap (λ (x : List ℕ). sets (s .args .out .now) (s .args .at) (joined x)) all)
 

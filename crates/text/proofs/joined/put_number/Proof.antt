@@ -2,7 +2,7 @@
 use mathlib.Core.Path.{sym, _∙_}
 use native.Mathlib.Omega.{arith}
 use borrow.Author.Needs.{needs}
-use Rattle.text.specs.Decimal.{digits}
+use Rattle.text.specs.Decimal.{decimal}
 use Rattle.text.proofs.Fitting.{put-fits, put-over}
 use Rattle.text.proofs.joined.put_number.Statement.{statement}
 use Rattle.text.proofs.joined.put_number.Tie as tie
@@ -10,7 +10,7 @@ use Rattle.text.proofs.joined.put_number.Tie as tie
 returns : tie.Need-returns
 returns c =
     let s = c .before .before in
-    let o = put-over (s .args .out .now) (s .args .at) (digits (s .args .n)) (omega (arith, c .if1 .taken)) in
+    let o = put-over (s .args .out .now) (s .args .at) (decimal (s .args .n)) (omega (arith, c .if1 .taken)) in
     (sym (o .0), sym (o .1))
 
 sub-if2 : tie.Need-sub-if2
@@ -22,7 +22,7 @@ characters-requires c κs = search needs
 returns-2 : tie.Need-returns-2
 returns-2 c =
     let s = c .before .before .before .before in
-    let o = put-over (s .args .out .now) (s .args .at) (digits (s .args .n)) (omega (arith, c .if2 .taken, c .before .characters .ensures)) in
+    let o = put-over (s .args .out .now) (s .args .at) (decimal (s .args .n)) (omega (arith, c .if2 .taken, c .before .characters .ensures)) in
     (sym (o .0), sym (o .1))
 
 put-digits-requires : tie.Need-put-digits-requires
@@ -36,7 +36,7 @@ returns-3 c =
     let k = c .before .before in
     let e = k .before .before in
     let s = e .before .before .before .before in
-    let fits = put-fits (s .args .out .now) (s .args .at) (digits (s .args .n)) (omega (arith, e .if2 .left, e .before .characters .ensures, e .before .before .if1 .left)) in
+    let fits = put-fits (s .args .out .now) (s .args .at) (decimal (s .args .n)) (omega (arith, e .if2 .left, e .before .characters .ensures, e .before .before .if1 .left)) in
     (k .put-digits .ensures .0 ∙ sym (fits .0), k .put-digits .ensures .1 ∙ sym (fits .1))
 
 pub put-number-spec : {M : Type 1} → statement M

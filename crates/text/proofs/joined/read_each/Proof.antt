@@ -9,7 +9,8 @@ use lib.Dec.{eqb}
 use lib.ListN.{length, length-set}
 use borrow.Author.Needs.{needs}
 use borrow.Author.Tests.{eqb-true, eqb-false}
-use Rattle.text.specs.Joined.{answered, numbersIn}
+use Rattle.text.specs.Joined.{numbersIn}
+use Rattle.text.specs.Workings.{answered}
 use Rattle.text.proofs.Sofar.{Sofar, no-numbers, none-yet, cut, bad, one-more, last-bad, complete}
 use Rattle.text.proofs.joined.read_each.Statement.{statement}
 use Rattle.text.proofs.joined.read_each.Tie as tie

@@ -6,7 +6,7 @@ use mathlib.Core.Path.{_≡_, refl, ap, _∙_}
 use Prim.Native.Nat.{ℕ}
 use borrow.Author.Needs.{needs}
 use lib.ListN.{replicate}
-use Rattle.text.specs.Joined.{isSome, orZeros, answered}
+use Rattle.text.specs.Workings.{isSome, orZeros, answered}
 use Rattle.text.proofs.joined.read_joined.Statement.{statement}
 use Rattle.text.proofs.joined.read_joined.Tie as tie
 

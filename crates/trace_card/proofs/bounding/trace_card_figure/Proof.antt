@@ -6,7 +6,7 @@ use borrow.Author.Needs.{needs}
 use denote.Ref.{now}
 use lib.Dec.{eqb}
 use Rattle.header.specs.declared.Plan.{Plan}
-use Rattle.figure.specs.Figure.{Bounding, bounding}
+use Rattle.figure.specs.Bounding.{Bounding, bounding}
 use Rattle.trace_card.specs.Boundary.{nothing, boundedAs, figureCall}
 use Rattle.trace_card.proofs.Lengths.{no-answer, no-plan, with-plan}
 use Rattle.trace_card.proofs.Told.{bounded-told}

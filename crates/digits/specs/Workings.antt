@@ -1,0 +1,6 @@
+-- What `loss` works with.
+use Prim.Native.Nat.{ℕ}
+
+-- the digits that hold every i32; of no more can any be missing
+abbrev pub digitsMost : ℕ
+digitsMost = 33

@@ -1,0 +1,95 @@
+-- How the text is written, piece by piece, and what is said of an input that is longer than any card. Laws: the pieces in order are the text
+-- (`AllPieces.shown-pieces`), and what is said of such an input is what all its bytes show (`LongShown.long-number`, `long-shown`).
+use mathlib.Core.Bool.{Bool, cond, not, _&&_}
+use mathlib.Core.List.{List, [], _∷_, _++_}
+use Prim.Native.Nat.{ℕ, _+_, _*_, _-_, _%_}
+use lib.Dec.{ltb, eqb}
+use lib.IntN.{ℤ, pos}
+use lib.ListN.{length, getD}
+use lib.Seq.{sets}
+use Rattle.sheet.specs.Limits.{layersMost}
+use Rattle.text.specs.Text.{padded}
+use Rattle.text.specs.Workings.{charactersMost}
+use Rattle.text.specs.Line.{newline, hasEnd, lineText}
+use Rattle.text.specs.Joined.{comma}
+use Rattle.header.specs.Header.{ascii}
+use Rattle.display.specs.declared.Ahead.{Ahead}
+use Rattle.display.specs.declared.Ahead.the-variants.{End, Nothing, More}
+use Rattle.display.specs.declared.Piece.{Piece}
+use Rattle.display.specs.declared.Shown.{Shown}
+use Rattle.display.specs.Shown.{signed, loadedText}
+
+-- ---- a piece: text in a fixed room
+-- room for a key, and for the longest piece, which is the line of planes: a comma or the line's end stands behind each count
+abbrev pub keyMost : ℕ
+keyMost = 8
+
+abbrev pub pieceMost : ℕ
+pieceMost = keyMost + layersMost * (charactersMost + 1)
+
+-- the piece that holds a text
+abbrev pub pieceOf : List ℕ → Piece
+pieceOf text = record { bytes = padded pieceMost text; length = length text }
+
+-- a piece with a text put behind its own
+abbrev pub extended : Piece → List ℕ → Piece
+extended p text = record { bytes = sets (p .bytes) (p .length) text; length = p .length + length text }
+
+-- ---- the pieces of the text: a line each before the values, and then each value with what stands around it
+-- the lines before the values, and how many they are
+abbrev pub sheetLines : ℕ
+sheetLines = 4
+
+abbrev pub sheetLine : Shown → ℕ → List ℕ
+sheetLine s i =
+    cond (eqb i 0) (lineText (ascii "rows=") (s .shape .rows))
+    (cond (eqb i 1) (lineText (ascii "cols=") (s .shape .cols))
+    (cond (eqb i 2) (loadedText (s .shape) (s .plan)) (lineText (ascii "figure=") (s .figure))))
+
+-- what stands before a value in its line: the key, where it is the first
+abbrev pub rowStart : ℕ → List ℕ
+rowStart column = cond (eqb column 0) (ascii "row=") []
+
+-- what stands behind it: a comma, or the line's end behind the last
+abbrev pub rowEnd : Bool → List ℕ
+rowEnd last = cond last (newline ∷ []) (comma ∷ [])
+
+-- value i of a sheet of so many columns
+unfoldable pub valuePiece : List ℤ → ℕ → ℕ → List ℕ
+valuePiece vs cols i =
+    cond (ltb i (length vs) && not (eqb cols 0))
+    (rowStart (i % cols) ++ signed (getD vs i (pos 0)) ++ rowEnd (eqb (i % cols + 1) cols))
+    []
+
+-- the one line of a refused card
+abbrev pub refusedLine : ℕ → ℕ → List ℕ
+refusedLine number i = cond (eqb i 0) (lineText (ascii "refused=") number) []
+
+-- piece i of all; nothing past the last
+unfoldable pub pieceAt : Shown → List ℤ → ℕ → List ℕ
+pieceAt s vs i =
+    cond (eqb (s .number) 0)
+    (cond (ltb i sheetLines) (sheetLine s i) (valuePiece vs (s .shape .cols) (i - sheetLines)))
+    (refusedLine (s .number) i)
+
+-- how many there are
+abbrev pub pieces : ℕ → List ℤ → ℕ
+pieces number vs = cond (eqb number 0) (sheetLines + length vs) 1
+
+-- ---- an input that is longer than any card, which has at most 32,768 bytes
+-- so much is read before an input is known to be one
+abbrev pub bufferBytes : ℕ
+bufferBytes = 40000
+
+-- so much more is looked at in a turn
+abbrev pub chunkBytes : ℕ
+chunkBytes = 4096
+
+-- what the bytes of one turn tell of what follows: a byte 10, or none where they are fewer than were asked for, and so the last
+abbrev pub aheadOf : List ℕ → Ahead
+aheadOf bs = cond (hasEnd bs) End (cond (ltb (length bs) chunkBytes) Nothing More)
+
+-- the number of its refusal, from that of its first bytes and whether a byte 10 follows them: where the first bytes
+-- end before a line's byte 10 (5) and it follows, the line is too long to be right (6)
+abbrev pub longNumber : ℕ → Bool → ℕ
+longNumber number ends = cond (eqb number 5) (cond ends 6 5) number

@@ -1,0 +1,67 @@
+-- Demand 1, its second sentence (docs/CARD.md, "The three demands"): a refused call changes none of the memory that the caller lent. Whatever a call was given, where
+-- the number of its refusal is not 0 every slice that it can write holds what it held. Opening, the figure and both plannings are lent nothing to write.
+use mathlib.Core.List.{List}
+use mathlib.Core.Path.{_≡_}
+use Prim.Native.Nat.{ℕ}
+use lib.IntN.{ℤ}
+use lib.ListN.{length}
+use Rattle.sheet.specs.declared.Shape.{Shape}
+use Rattle.sheet.specs.declared.Curve.{Curve}
+use Rattle.sheet.specs.Limits.{layersMost}
+use Rattle.header.specs.declared.Plan.{Plan}
+use Rattle.card.specs.Writing.{Writing, writing}
+use Rattle.card.specs.Reading.{Reading, reading, showing}
+use Rattle.card.specs.Refining.{refining}
+use Rattle.trace_card.specs.Boundary.{answerLength, AfterWriting, AfterReading, wrote, left, asked, writeCall, readCall, showCall, refineCall, figureCall, limitCall, cellsCall}
+
+-- 0 is the number of no refusal
+abbrev pub Refused : ℕ → Type 0
+Refused number = number ≡ 0 → ⊥
+
+-- ---- slices that held qs, vs and out hold them still
+pub record KeptByWriting (qs vs : List ℤ) (out : List ℕ) (w : Writing) : Type 0 where
+  pub coefficients : Refused (w .refused .number) → w .coefficients ≡ qs
+  pub values : Refused (w .refused .number) → w .values ≡ vs
+  pub output : Refused (w .refused .number) → w .output ≡ out
+
+pub record KeptByReading (qs vs : List ℤ) (r : Reading) : Type 0 where
+  pub coefficients : Refused (r .refused .number) → r .coefficients ≡ qs
+  pub values : Refused (r .refused .number) → r .values ≡ vs
+
+-- and so of a C function, by the number that it returned
+pub record KeptByWrite (qs vs : List ℤ) (out : List ℕ) (a : AfterWriting) : Type 0 where
+  pub coefficients : Refused (a .returned) → a .coefficients ≡ qs
+  pub values : Refused (a .returned) → a .values ≡ vs
+  pub output : Refused (a .returned) → a .output ≡ out
+
+pub record KeptByRead (qs vs : List ℤ) (a : AfterReading) : Type 0 where
+  pub coefficients : Refused (a .returned) → a .coefficients ≡ qs
+  pub values : Refused (a .returned) → a .values ≡ vs
+
+-- ---- the seven C functions. `answer` is the call's report, which a refused call fills too
+pub record UnchangedThroughC : Type 0 where
+  pub write : (xs : List ℤ) (rows cols levels curve step : ℕ) (qs vs : List ℤ) (out answer : List ℕ)
+      → KeptByWrite qs vs out (writeCall xs rows cols levels curve step qs vs out answer)
+  pub read : (qs vs : List ℤ) (answer card plan : List ℕ) → KeptByRead qs vs (readCall qs vs answer card plan)
+  pub show : (qs vs : List ℤ) (answer card : List ℕ) → KeptByRead qs vs (showCall qs vs answer card)
+  pub refine : (qs vs : List ℤ) (answer card plan : List ℕ) (layer : ℕ) → KeptByRead qs vs (refineCall qs vs answer card plan layer)
+  -- where `answer` or a plan has a wrong length there is no report: nothing at all is written, and 3 is returned
+  pub unwritten : (xs : List ℤ) (rows cols levels curve step : ℕ) (qs vs : List ℤ) (out answer : List ℕ) → (length answer ≡ answerLength → ⊥)
+      → writeCall xs rows cols levels curve step qs vs out answer ≡ wrote 3 answer qs vs out
+  pub unread : (qs vs : List ℤ) (answer card plan : List ℕ) → ((length answer ≡ answerLength) × (length plan ≡ layersMost) → ⊥)
+      → readCall qs vs answer card plan ≡ left 3 answer qs vs
+  pub unshown : (qs vs : List ℤ) (answer card : List ℕ) → (length answer ≡ answerLength → ⊥) → showCall qs vs answer card ≡ left 3 answer qs vs
+  pub unrefined : (qs vs : List ℤ) (answer card plan : List ℕ) (layer : ℕ) → ((length answer ≡ answerLength) × (length plan ≡ layersMost) → ⊥)
+      → refineCall qs vs answer card plan layer ≡ left 3 answer qs vs
+  pub unbounded : (card plan answer : List ℕ) → ((length answer ≡ answerLength) × (length plan ≡ layersMost) → ⊥) → figureCall card plan answer ≡ asked 3 answer
+  pub unplanned-limit : (card : List ℕ) (limit : ℕ) (answer : List ℕ) → (length answer ≡ answerLength → ⊥) → limitCall card limit answer ≡ asked 3 answer
+  pub unplanned-cells : (card : List ℕ) (cells : ℕ) (answer : List ℕ) → (length answer ≡ answerLength → ⊥) → cellsCall card cells answer ≡ asked 3 answer
+
+-- ---- the calls
+pub record Unchanged : Type 0 where
+  pub write : (xs : List ℤ) (sh : Shape) (curve : Curve) (e : ℕ) (qs vs : List ℤ) (out : List ℕ)
+      → KeptByWriting qs vs out (writing xs sh curve e qs vs out)
+  pub read : (qs vs : List ℤ) (bs : List ℕ) (plan : Plan) → KeptByReading qs vs (reading qs vs bs plan)
+  pub show : (qs vs : List ℤ) (bs : List ℕ) → KeptByReading qs vs (showing qs vs bs)
+  pub refine : (qs vs : List ℤ) (bs : List ℕ) (plan : Plan) (k : ℕ) → KeptByReading qs vs (refining qs vs bs plan k)
+  pub through-c : UnchangedThroughC

@@ -1,0 +1,653 @@
+//! The numbers in docs/CARD.md: the model works them out, they are put into the document's own
+//! words, and those are looked for there. So a rule that changes fails here until the document is
+//! amended.
+
+mod common;
+
+use common::document::{digits, example, grouped, joined, listed, says, section, shows, sum};
+use common::{bench, files, plan};
+use trace_card_tests::boundary::ANSWER;
+use trace_card_tests::model::digits::{
+    digits_of, weight, GREATEST_COEFFICIENT, LEAST_COEFFICIENT, MOST_DIGITS,
+};
+use trace_card_tests::model::figure::{carry, loss};
+use trace_card_tests::model::header::print;
+use trace_card_tests::model::planes::{card_order, cells_of_plane, CELL_BYTES};
+use trace_card_tests::model::predict::{cubic, predict};
+use trace_card_tests::model::refusal::{
+    BAD_PLANE, BYTES_AFTER, COEFFICIENT, HEADER_CUT, HEADER_LINE, LENGTHS, LEVELS_OR_STEP, LIMIT,
+    PLAN, SAMPLE_RANGE, SHEET_SIZE,
+};
+use trace_card_tests::model::sheet::{
+    Layer, Point, Shape, LARGEST_SAMPLE, MOST_LEVELS, MOST_POINTS,
+};
+use trace_card_tests::model::steps::{coefficient, rebuilt, width, LARGEST_STEP};
+use trace_card_tests::model::write::OUTPUT_BYTES;
+use trace_card_tests::model::{
+    figure, open, plan_by_cells, plan_by_limit, show, write, Curve, Opened, Plan, Planned, Reached,
+    Refusal, MAX_LAYERS,
+};
+use trace_card_tests::random::cases::{Case, Written};
+use trace_card_tests::random::Random;
+
+#[test]
+fn rounding_below_0() {
+    let words = format!("-9 / 16 rounded down is {}.", cubic(0, -1, 0, 0));
+    says(&files::text("docs/CARD.md"), &words);
+}
+
+#[test]
+fn the_sheet() {
+    let part = section("1. The sheet");
+    let (points, step) = (grouped(MOST_POINTS), grouped(LARGEST_STEP));
+    let sample = grouped(LARGEST_SAMPLE);
+    says(&part, &format!("*points*, is at most {points}."));
+    says(&part, &format!("A sample is from -{sample} to {sample}."));
+    says(&part, &format!("*levels* L, from 0 to {MOST_LEVELS};"));
+    says(&part, &format!("*step* e, from 0 to {step}"));
+}
+
+/// Five rows and nine columns with two levels, and a sign that both go on.
+#[test]
+fn the_picture_of_layers() {
+    let (rows, cols, levels) = (5, 9, 2);
+    let shape = Shape { rows, cols, levels };
+    let layer_of = |point| {
+        let layers = shape.layers();
+        layers.iter().position(|layer| layer.holds(point)).unwrap()
+    };
+    let layers: Vec<usize> = shape.points().map(layer_of).collect();
+    let lines = layers.chunks(cols as usize).map(|row| joined(row, " "));
+    let mut lines: Vec<String> = lines.collect();
+    lines[0] += " ..";
+    shows(&section("2. Layers"), &(lines.join("\n") + "\n..\n"));
+}
+
+#[test]
+fn the_spacing_of_a_layer() {
+    for levels in 0..=MOST_LEVELS {
+        let (rows, cols) = (1, 1);
+        let layers = Shape { rows, cols, levels }.layers();
+        for (layer, k) in layers.into_iter().zip(0..).skip(1) {
+            let s = 1 << (levels - u64::div_ceil(k, 2));
+            let expected = if k % 2 == 1 {
+                Layer::Across { s }
+            } else {
+                Layer::Down { s }
+            };
+            assert_eq!(layer, expected);
+        }
+    }
+    let part = section("2. Layers");
+    says(&part, "k/2 rounded up");
+    says(&part, "across where k is odd and down where it is even.");
+}
+
+#[test]
+fn the_coefficient() {
+    let mut random = Random::new(700);
+    for _ in 0..1000 {
+        let [x, y] = [(); 2].map(|()| random.between(-1 << 20, 1 << 20));
+        let step = random.below(LARGEST_STEP + 1);
+        let (e, w) = (step as i64, 2 * step as i64 + 1);
+        let q = (x - y + e).div_euclid(w);
+        assert_eq!(
+            (q, y + q * w),
+            (coefficient(x, y, step), rebuilt(y, q, step))
+        );
+        assert!(x.abs_diff(y + q * w) <= step);
+    }
+    says(&section("1. The sheet"), "*width* w = 2e + 1.");
+    let words = "q = (x - y + e) / w rounded down, and the *rebuilt value* is y + q × w. The \
+                 rebuilt value is within e of x.";
+    says(&section("4. Coefficients"), words);
+}
+
+#[test]
+fn the_reach_of_digits() {
+    // A 1 at every odd place and at no even one, and the other way.
+    let reach = |n: u64| -> (i64, i64) {
+        let (odd, even): (Vec<u64>, Vec<u64>) = (0..n).partition(|p| p % 2 == 1);
+        let total = |places: Vec<u64>| places.into_iter().map(weight).sum();
+        (total(odd), total(even))
+    };
+    for n in 0..=MOST_DIGITS {
+        let [h, j] = [n / 2, n.div_ceil(2)].map(|half| 4_i64.pow(half as u32));
+        assert_eq!((-2 * (h - 1) / 3, (j - 1) / 3), reach(n));
+    }
+    let part = section("5. Digits");
+    let words = "n digits reach from -2(4^h - 1)/3 to (4^j - 1)/3, where h is n/2 rounded down \
+                 and j is n/2 rounded up,";
+    says(&part, words);
+
+    let (least, greatest) = reach(MOST_DIGITS);
+    assert_eq!(least, LEAST_COEFFICIENT.into());
+    assert_eq!(greatest, GREATEST_COEFFICIENT.into());
+    let (least, greatest) = (grouped(least), grouped(greatest));
+    let words = format!("{MOST_DIGITS} digits, from {least} to {greatest}, are enough");
+    says(&part, &words);
+}
+
+#[test]
+fn the_lowest_digit() {
+    for q in -1000..=1000_i64 {
+        let lowest = q.rem_euclid(2);
+        let mut digits = vec![lowest as u8];
+        digits.extend(digits_of((lowest - q) / 2));
+        assert_eq!(digits[..digits_of(q).len()], digits_of(q));
+    }
+    let words = "Digit 0 of q is q mod 2, and the digits above it are those of (digit 0 - q) / 2.";
+    says(&section("5. Digits"), words);
+}
+
+#[test]
+fn the_cells_of_a_card() {
+    let in_a_cell = 8 * CELL_BYTES;
+    for n in 0..=MOST_POINTS {
+        assert_eq!(cells_of_plane(n), n.div_ceil(in_a_cell));
+    }
+    let part = section("6. Planes");
+    says(&part, &format!("*cells* of {CELL_BYTES} bytes,"));
+    let words = format!("takes n / {in_a_cell} rounded up cells a plane;");
+    says(&part, &words);
+
+    // Each layer has at most one cell that is not full.
+    let of_a_place = (MOST_POINTS + MAX_LAYERS as u64 * (in_a_cell - 1)) / in_a_cell;
+    let cells = MOST_DIGITS * of_a_place;
+    // No header is longer than this one, which no card has.
+    let (rows, cols, levels) = (MOST_POINTS, MOST_POINTS, MOST_LEVELS);
+    let shape = Shape { rows, cols, levels };
+    let planes = [MOST_DIGITS; MAX_LAYERS];
+    let header = print(shape, Curve::Linear, LARGEST_STEP, &planes, cells);
+    assert!(header.len() + (cells * CELL_BYTES) as usize <= OUTPUT_BYTES);
+    let (cells, bytes) = (grouped(cells), grouped(OUTPUT_BYTES));
+    let words = format!("A card has at most {cells} cells and at most {bytes} bytes.");
+    says(&section("7. The card"), &words);
+}
+
+#[test]
+fn the_lines_of_a_header() {
+    let header = open(&bench::card()).unwrap().print();
+    for (line, number) in String::from_utf8(header).unwrap().lines().zip(1..) {
+        let (key, _) = line.split_once('=').unwrap();
+        says(&section("7. The card"), &format!("| {number} | `{key}` |"));
+    }
+}
+
+#[test]
+fn the_planes_before_a_plane() {
+    let mut random = Random::new(701);
+    for _ in 0..100 {
+        let counts: Vec<u64> = (0..5).map(|_| random.below(MOST_DIGITS + 1)).collect();
+        // A point a layer, so that a plane is a cell.
+        for plane in card_order(&counts, &[1; 5]) {
+            let before = |j: usize| {
+                let first_not_before = plane.place + u64::from(j >= plane.layer);
+                counts[j].saturating_sub(first_not_before)
+            };
+            assert_eq!(plane.first_cell, (0..5).map(before).sum());
+        }
+    }
+    let part = section("7. The card");
+    let words = "P_j - p planes where j < k, and P_j - p - 1 where not, or none where that is \
+                 below 0.";
+    says(&part, words);
+    let words = format!("for each place p from {} down to 0,", MOST_DIGITS - 1);
+    says(&part, &words);
+}
+
+#[test]
+fn losses_and_carries() {
+    for d in 0..=MOST_DIGITS {
+        assert_eq!(loss(d), 2_u64.pow(d as u32 + 1) / 3);
+    }
+    for m in 0..1000 {
+        assert_eq!(carry(Curve::Linear, m), m);
+        assert_eq!(carry(Curve::Cubic, m), (5 * m).div_ceil(4));
+    }
+    let losses: Vec<u64> = (0..=5).map(loss).collect();
+    let losses = joined(&losses, ", ");
+    let part = section("9. The figure");
+    let words = format!("loss(d) = 2^(d+1) / 3 rounded down: {losses} for d = 0 to 5.");
+    says(&part, &words);
+    let words = "by the linear curve M stays M, and by the cubic one it becomes 5M / 4 rounded up";
+    says(&part, words);
+}
+
+#[test]
+fn the_refusals() {
+    let points = grouped(MOST_POINTS);
+    let (step, bytes) = (grouped(LARGEST_STEP), grouped(OUTPUT_BYTES));
+    let part = section("11. Refusals");
+    for words in [
+        format!("| {HEADER_CUT} | there is no byte 10"),
+        format!("| {HEADER_LINE} | the line is not right: | which line, 1 to 7 |"),
+        format!("lines 1 and 2: the size is not from 1 to {points}"),
+        format!("R × C is above {points} |"),
+        format!("the levels are above {MOST_LEVELS}; line 4: neither curve;"),
+        format!("line 5: the step is above {step} |"),
+        format!("a count above {MOST_DIGITS},"),
+        format!("| {BYTES_AFTER} | after all lines: there are bytes behind"),
+        format!("**Writing.** {SHEET_SIZE}: R or C is 0, or R × C is above {points}."),
+        format!("{LEVELS_OR_STEP}: L is above {MOST_LEVELS}, or e above {step}."),
+        format!("{LENGTHS}: samples, coefficients or values are not R × C long,"),
+        format!("has room for fewer than {bytes} bytes. {SAMPLE_RANGE}: a sample"),
+        format!("Opening's; then {LENGTHS}: coefficients or values are not R × C long."),
+        format!("{PLAN}: a layer is asked for more planes than are whole,"),
+        format!("{BAD_PLANE}: a plane that the plan loads has a spare bit set,"),
+        format!("so {PLAN} never applies to it."),
+        format!("**Refining.** Opening's; {LENGTHS} as in reading; {PLAN}: the plan,"),
+        format!("{COEFFICIENT}: a coefficient handed in is outside the range of {MOST_DIGITS}"),
+        format!("{BAD_PLANE}: the new plane,"),
+        format!("**Figure of a plan.** Opening's; {PLAN}: the plan loads more planes"),
+        format!("by limit also {LIMIT}: E is below e."),
+    ] {
+        says(&part, &words);
+    }
+}
+
+#[test]
+fn plans_and_answers() {
+    let part = section("8. Plans, reading, refining");
+    says(&part, &format!("A *plan* is {MAX_LAYERS} numbers,"));
+    let part = section("12. The calls");
+    for words in [
+        format!("fills `answer`, {ANSWER} numbers:"),
+        format!("the {MAX_LAYERS} numbers of the plan"),
+        format!("0 linear and 1 cubic; another is refusal {LEVELS_OR_STEP}."),
+        format!("Where `answer` has not {ANSWER} numbers, or a plan"),
+        format!("handed in not {MAX_LAYERS}, the function returns {LENGTHS} and writes nothing,"),
+    ] {
+        says(&part, &words);
+    }
+}
+
+/// A worked example of one row and one level: what the model makes of it, and where it is told.
+struct Example {
+    case: Case,
+    written: Written,
+    opened: Opened,
+    part: String,
+}
+
+/// Those at some columns.
+fn at<T: Copy>(columns: &[usize], all: &[T]) -> Vec<T> {
+    columns.iter().map(|&column| all[column]).collect()
+}
+
+/// A plan of the examples, which have three layers.
+fn said(plan: &Plan) -> String {
+    joined(&plan[..3], ",")
+}
+
+impl Example {
+    fn new(title: &str, curve: Curve, step: u64, samples: &[i32]) -> Example {
+        let case = Case {
+            rows: 1,
+            cols: samples.len() as u64,
+            levels: 1,
+            curve,
+            step,
+            samples: samples.to_vec(),
+        };
+        let written = case.write();
+        Example {
+            opened: open(&written.card).unwrap(),
+            part: example(title),
+            case,
+            written,
+        }
+    }
+
+    fn bench() -> Example {
+        Example::new("The bench card", Curve::Linear, 1, &bench::SAMPLES)
+    }
+
+    fn cubic() -> Example {
+        Example::new("A cubic one", Curve::Cubic, 0, &[0, 5, -1, -7, 0, 3, 0])
+    }
+
+    fn says(&self, words: &str) {
+        says(&self.part, words);
+    }
+
+    /// The columns of layers 0 and 1; layer 2 is empty.
+    fn columns(&self) -> [Vec<usize>; 2] {
+        let shape = self.opened.shape();
+        let columns = |layer| -> Vec<usize> {
+            let points = shape.points_of(layer).into_iter();
+            points.map(|point| point.col as usize).collect()
+        };
+        let layers = shape.layers();
+        assert_eq!(layers[1..], [Layer::Across { s: 1 }, Layer::Down { s: 1 }]);
+        assert!(columns(layers[2]).is_empty());
+        [columns(layers[0]), columns(layers[1])]
+    }
+
+    /// The sample, prediction, coefficient and value of a column of layer 1.
+    fn across(&self, column: usize) -> [i64; 4] {
+        let (shape, values) = (self.opened.shape(), &self.written.values);
+        let (row, col) = (0, column as u64);
+        let layer = Layer::Across { s: 1 };
+        [
+            self.case.samples[column].into(),
+            predict(values, shape, self.case.curve, layer, Point { row, col }),
+            self.written.coefficients[column].into(),
+            values[column],
+        ]
+    }
+
+    /// The coefficients that are not 0, by layers, with their digits.
+    fn digits(&self) -> String {
+        let mut coefficients = at(&self.columns().concat(), &self.written.coefficients);
+        coefficients.retain(|&q| q != 0);
+        digits(&coefficients.into_iter().map(i64::from).collect::<Vec<_>>())
+    }
+
+    fn header(&self) -> String {
+        let header = &self.written.card[..self.opened.header_length];
+        String::from_utf8(header.to_vec()).unwrap()
+    }
+
+    /// The planes in card order, those of a layer that follow each other together: "layer 1 at
+    /// places 4, 3 and 2".
+    fn planes(&self) -> Vec<String> {
+        let planes = card_order(&self.opened.planes, &self.opened.points);
+        let runs = planes.chunk_by(|one, next| one.layer == next.layer);
+        runs.map(|run| {
+            let places: Vec<u64> = run.iter().map(|plane| plane.place).collect();
+            let noun = if run.len() == 1 { "place" } else { "places" };
+            format!("layer {} at {noun} {}", run[0].layer, listed(&places))
+        })
+        .collect()
+    }
+
+    /// The first bytes of the cells; all others are 0.
+    fn first_bytes(&self) -> Vec<u8> {
+        let cells = self.written.card[self.opened.header_length..].chunks(CELL_BYTES as usize);
+        cells
+            .map(|cell| {
+                assert!(cell[1..].iter().all(|&byte| byte == 0));
+                cell[0]
+            })
+            .collect()
+    }
+
+    /// What is shown of the first bytes: coefficients, values, and the plan with its figure.
+    fn pulled(&self, length: usize) -> Result<(Vec<i32>, Vec<i64>, Reached), Refusal> {
+        let count = self.case.count();
+        let (mut coefficients, mut values) = (vec![0; count], vec![0; count]);
+        let bytes = &self.written.card[..length];
+        let reached = show(bytes, &mut coefficients, &mut values)?;
+        Ok((coefficients, values, reached))
+    }
+}
+
+#[test]
+fn the_bench_card_is_written() {
+    let bench = Example::bench();
+    let Written {
+        coefficients,
+        values,
+        card,
+    } = &bench.written;
+    let (samples, e, w) = (&bench.case.samples, 1, width(1));
+    let [anchors, others] = bench.columns();
+    bench.says(&format!(
+        "One row of five samples, {}; one level, linear, step {e}, so w = {w}. Layer 0 has the \
+         columns {}, layer 1 (across, s = 1) the columns {}, and layer 2 (down) is empty.",
+        joined(samples, " "),
+        listed(&anchors),
+        listed(&others),
+    ));
+
+    let quotient = |&column: &usize| {
+        let (x, q) = (samples[column], coefficients[column]);
+        format!("({x} + {e}) / {w} = {q}")
+    };
+    bench.says(&format!(
+        "The anchors are predicted as 0: {} give the coefficients {}, and the values {}.",
+        listed(&at(&anchors, samples)),
+        listed(&anchors.iter().map(quotient).collect::<Vec<_>>()),
+        listed(&at(&anchors, values)),
+    ));
+    for column in others {
+        let (b, c) = (values[column - 1], values[column + 1]);
+        let [x, y, q, value] = bench.across(column);
+        bench.says(&format!(
+            "Column {column} is predicted as ({b} + {c}) / 2 = {y}, so q = ({x} - {y} + {e}) / {w} \
+             = {q} and the value is {value}.",
+        ));
+    }
+
+    let Opened {
+        planes,
+        cells,
+        header_length,
+        ..
+    } = &bench.opened;
+    assert_eq!((planes[2], *cells), (0, planes.iter().sum()));
+    bench.says(&format!(
+        "Digits, highest first: {}. So layer 0 has {} planes, layer 1 has {}, layer 2 none: \
+         {cells} planes of one cell each.",
+        bench.digits(),
+        planes[0],
+        planes[1],
+    ));
+    bench.says(&format!(
+        "The header has {header_length} bytes and the card {}:",
+        card.len()
+    ));
+    shows(&bench.part, &bench.header());
+}
+
+#[test]
+fn the_planes_of_the_bench_card() {
+    let bench = Example::bench();
+    let planes = bench.planes();
+    let [first, second] = &planes[..] else {
+        panic!("{planes:?}")
+    };
+    let bytes = bench.first_bytes();
+    bench.says(&format!(
+        "The planes are those of {first} and that of {second}. Their first bytes are {}, and all \
+         other bytes are 0.",
+        listed(&bytes),
+    ));
+    let weights = [0, 1, 2].map(|anchor| 1 << anchor);
+    let at_place_2 = weights.iter().sum();
+    assert_eq!(bytes[2], at_place_2);
+    bench.says(&format!(
+        "At place 2, for example, all three anchors have a 1: {} = {at_place_2}.",
+        joined(&weights, " + "),
+    ));
+}
+
+#[test]
+fn the_bench_card_is_pulled() {
+    let bench = Example::bench();
+    let (e, w) = (1, width(1));
+    let (coefficients, values, Reached { plan, figure }) = bench.pulled(160).unwrap();
+    let [first, second] = [0, 1].map(|layer| bench.opened.planes[layer] - plan[layer]);
+    let [anchors, _] = bench.columns();
+    bench.says(&format!(
+        "Pulled at byte 160 it holds {} planes. The anchors' digits at places {} count as 0, so \
+         the coefficients are {}; the values are {} (in row order), the plan is {} and the figure \
+         is {e} + (loss({first}) × {w} + loss({second}) × {w}) = {e} + {} + {} = {figure}.",
+        plan.iter().sum::<u64>(),
+        listed(&(0..first).rev().collect::<Vec<_>>()),
+        listed(&at(&anchors, &coefficients)),
+        joined(&values, " "),
+        said(&plan),
+        loss(first) * w,
+        loss(second) * w,
+    ));
+
+    let (_, _, two) = bench.pulled(159).unwrap();
+    let (_, _, none) = bench.pulled(64).unwrap();
+    assert_eq!(none.plan, [0; MAX_LAYERS]);
+    bench.says(&format!(
+        "Pulled at byte 159 the third plane is not whole: plan {}, figure {}. At byte 64: no \
+         planes, figure {}. At byte 63 the header is cut: refusal {}.",
+        said(&two.plan),
+        two.figure,
+        none.figure,
+        bench.pulled(63).unwrap_err().number,
+    ));
+}
+
+#[test]
+fn the_bench_card_is_planned() {
+    let bench = Example::bench();
+    let card = &bench.written.card;
+    let by_limit = |limit| plan_by_limit(card, limit).unwrap();
+    let [ten, nine, one] = [10, 9, 1].map(by_limit);
+    let tied = plan(&[3, 1]);
+    assert_eq!(figure(card, &tied), Ok(nine.figure));
+    assert_eq!(tied.iter().sum::<u64>(), nine.cells, "a plane is a cell");
+    assert_eq!(one.cells, bench.opened.cells);
+    bench.says(&format!(
+        "By limit 10 the plan is {} with {} cells. By limit 9 it is {} with {} cells and the \
+         figure {}; {} has the same cells and figure, and loads more of a later layer. By limit 1 \
+         it is {}, all {} cells. By limit 0, refusal {}.",
+        said(&ten.plan),
+        ten.cells,
+        said(&nine.plan),
+        nine.cells,
+        nine.figure,
+        said(&tied),
+        said(&one.plan),
+        one.cells,
+        plan_by_limit(card, 0).unwrap_err().number,
+    ));
+    let Planned { plan, figure, .. } = plan_by_cells(card, 5).unwrap();
+    let plan = said(&plan);
+    bench.says(&format!(
+        "In 5 cells it is {plan} with the figure {figure}."
+    ));
+}
+
+#[test]
+fn the_cubic_example_is_written() {
+    let cubic = Example::cubic();
+    let [anchors, others] = cubic.columns();
+    cubic.says(&format!(
+        "One row of seven samples, {}; one level, cubic, step 0, so w = {}. The anchors are the \
+         columns {}: the coefficients {}.",
+        joined(&cubic.case.samples, " "),
+        width(0),
+        listed(&anchors),
+        listed(&at(&anchors, &cubic.written.coefficients)),
+    ));
+
+    assert_eq!(others, [1, 3, 5]);
+    let [a, b, c, d] = at(&anchors, &cubic.written.values)[..] else {
+        panic!("{anchors:?}")
+    };
+    let [first, second, third] = [1, 3, 5].map(|column| cubic.across(column));
+    let difference = |[x, y, ..]: [i64; 4]| sum(x, -y);
+    cubic.says(&format!(
+        "Column 1 has no neighbour 3 before it: ({}) / 2 rounded down is {}, and q = {} = {}. \
+         Column 3 has all four: (-{a} + 9 × {b} + 9 × {c} - {d}) / 16 rounded down is {}, and q = \
+         {} = {}. Column 5 has none 3 after it: ({}) / 2 = {}, and q = {}.",
+        sum(a, b),
+        first[1],
+        difference(first),
+        first[2],
+        second[1],
+        difference(second),
+        second[2],
+        sum(c, d),
+        third[1],
+        third[2],
+    ));
+}
+
+#[test]
+fn the_planes_of_the_cubic_example() {
+    let cubic = Example::cubic();
+    let header = cubic.header();
+    let lines: Vec<&str> = header.lines().collect();
+    cubic.says(&format!(
+        "Digits, highest first: {}. So `{}` and `{}`.",
+        cubic.digits(),
+        lines[5],
+        lines[6],
+    ));
+    let planes = cubic.planes();
+    let [first, second, third, fourth, fifth] = &planes[..] else {
+        panic!("{planes:?}")
+    };
+    cubic.says(&format!(
+        "In card order the planes are {first}; {second}, {third}; {fourth}, {fifth}. Their first \
+         bytes are {}.",
+        listed(&cubic.first_bytes()),
+    ));
+}
+
+#[test]
+fn the_figures_of_the_cubic_example() {
+    let cubic = Example::cubic();
+    let figure = |plan| figure(&cubic.written.card, plan).unwrap();
+    let none = plan(&[]);
+    let some = plan(&[1, 2]);
+    // The digits that the layers miss, and what the first has lost and the second carries.
+    let lost = |plan: &Plan| {
+        let [first, second] = [0, 1].map(|layer| cubic.opened.planes[layer] - plan[layer]);
+        (first, second, loss(first), carry(Curve::Cubic, loss(first)))
+    };
+    let (first, second, own, carried) = lost(&none);
+    cubic.says(&format!(
+        "With no planes the figure is {}: layer 0 has lost loss({first}) = {own}, which layer 1 \
+         carries to {} / 4 rounded up, {carried}, and adds loss({second}) = {}.",
+        figure(&none),
+        5 * own,
+        loss(second),
+    ));
+    let (_, second, own, carried) = lost(&some);
+    cubic.says(&format!(
+        "With {} it is {}: {own} is carried to {carried}, and loss({second}) = {}.",
+        said(&some),
+        figure(&some),
+        loss(second),
+    ));
+}
+
+/// Writes one row with the same sample everywhere.
+fn write_row(cols: u64, step: u64, sample: i32) -> Result<u64, Refusal> {
+    let count = cols as usize;
+    write(
+        &vec![sample; count],
+        1,
+        cols,
+        1,
+        Curve::Linear,
+        step,
+        &mut vec![0; count],
+        &mut vec![0; count],
+        &mut vec![0; OUTPUT_BYTES],
+    )
+}
+
+#[test]
+fn the_ends() {
+    assert!(write_row(MOST_POINTS, LARGEST_STEP, LARGEST_SAMPLE).is_ok());
+    let (points, step, sample) = (MOST_POINTS + 1, LARGEST_STEP + 1, LARGEST_SAMPLE + 1);
+    let refused = |written: Result<u64, Refusal>| written.unwrap_err().number;
+    let words = format!(
+        "Digits: {}. Carried cubically, 4 becomes {}, and 5 becomes {}. {} points pass and {} are \
+         refused ({}); step {} passes and {} is refused ({}); a sample of {} is refused ({}).",
+        digits(&[-1, 2, 5, 10]),
+        carry(Curve::Cubic, 4),
+        carry(Curve::Cubic, 5),
+        grouped(MOST_POINTS),
+        grouped(points),
+        refused(write_row(points, 0, 0)),
+        grouped(LARGEST_STEP),
+        grouped(step),
+        refused(write_row(1, step, 0)),
+        grouped(sample),
+        refused(write_row(1, 0, sample)),
+    );
+    says(&example("Ends"), &words);
+}
