@@ -32,7 +32,7 @@ use Rattle.figure.specs.Figure.{figureOf}
 use Rattle.figure.specs.Workings.{boundOf}
 use Rattle.figure.proofs.FigureCall.{bound-right}
 use Rattle.header.proofs.Over.{over-le}
-use Rattle.header.proofs.Rightness.{right-yes}
+use Rattle.header.proofs.WellFormed.{right-yes}
 use Rattle.header.proofs.Opens.{Opens, opened-right}
 use Rattle.header.proofs.Refusing.{opened-accepts}
 use Rattle.loading.specs.InBytes.{firstBad, coefsRead}

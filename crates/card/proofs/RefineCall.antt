@@ -23,7 +23,7 @@ use Rattle.header.specs.Opening.{wellFormed}
 use Rattle.order.specs.CardOrder.{isWhole, whole, wholePlan}
 use Rattle.figure.specs.Figure.{figureOf}
 use Rattle.header.proofs.Over.{over-none, none-over}
-use Rattle.header.proofs.Rightness.{right-yes, layers-few, few-planes}
+use Rattle.header.proofs.WellFormed.{right-yes, layers-few, few-planes}
 use Rattle.order.proofs.Whole.{whole-most, counted-whole}
 use Rattle.packing.specs.Planes.{allHeld}
 use Rattle.loading.specs.InBytes.{fine, coefsWith}

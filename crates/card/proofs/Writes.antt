@@ -45,7 +45,7 @@ use Rattle.packing.proofs.All.{all-by}
 use Rattle.packing.proofs.BodyOrder.{body-length}
 use Rattle.packing.proofs.Cards.{header-right, card-length}
 use Rattle.packing.proofs.FlatPlanes.{zero-holds}
-use Rattle.header.proofs.Rightness.{few-planes}
+use Rattle.header.proofs.WellFormed.{few-planes}
 use Rattle.card.specs.Writing.{outputLeast, badSizes, Writing, afterScan, badSettings, roomToWrite, writing, asWriting}
 use Rattle.card.specs.Writing as Wr
 use Rattle.card.proofs.BadSizes.{bad-sizes}

@@ -30,7 +30,7 @@ use Rattle.header.specs.Opening.{Opening, notOpened, taking, curveLine, curveOf
 use Rattle.header.proofs.HeaderLines.{headed}
 use Rattle.header.proofs.Counts.{Counted, counts-read}
 use Rattle.header.proofs.Opens.{padded-in}
-use Rattle.header.proofs.Rightness.{most-le}
+use Rattle.header.proofs.WellFormed.{most-le}
 use Rattle.header.proofs.Total.{cells-most}
 use Rattle.header.proofs.Turns.{PlanesLine}
 use Rattle.display.specs.Workings.{bufferBytes, longNumber}

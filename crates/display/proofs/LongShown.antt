@@ -14,7 +14,7 @@ use Rattle.header.specs.Header.{ascii, headerText}
 use Rattle.header.specs.Opening.{opening}
 use Rattle.header.proofs.HeaderLines.{Accepts}
 use Rattle.header.proofs.Opens.{opened-right}
-use Rattle.header.proofs.Rightness.{right-yes}
+use Rattle.header.proofs.WellFormed.{right-yes}
 use Rattle.header.proofs.TextLength.{card-fits}
 use Rattle.display.specs.Shown.{textOf, shownOf, shownText}
 use Rattle.display.specs.Workings.{bufferBytes, longNumber}

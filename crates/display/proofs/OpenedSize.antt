@@ -15,7 +15,7 @@ use Rattle.header.specs.Opening.{opening}
 use Rattle.header.proofs.HeaderLines.{Accepts}
 use Rattle.header.proofs.Opens.{opened-right}
 use Rattle.header.proofs.Refusing.{answers, refused-blank}
-use Rattle.header.proofs.Rightness.{right-yes}
+use Rattle.header.proofs.WellFormed.{right-yes}
 
 -- the points, as they are told, and no more than a sheet can have
 abbrev pub Small : Shape → Type 0

@@ -14,7 +14,7 @@ use Rattle.layers.proofs.Range.{limit, limit-all}
 use Rattle.header.specs.declared.Header.{Header}
 use Rattle.header.specs.Header.{placesMost, planesOf}
 use Rattle.figure.specs.Figure.{ownLoss, figureOf}
-use Rattle.header.proofs.Rightness.{Right, counts-few, layers-few}
+use Rattle.header.proofs.WellFormed.{WellFormed, counts-few, layers-few}
 use Rattle.figure.proofs.Limits.{lossMost, loss-most, standing-none, standing-limit}
 
 module _ (h : Header) where
@@ -48,7 +48,7 @@ own-few d e few small = mul-le-mul (loss-most d few) wide
     wide : width e ≤ 2 * stepMost + 1
     wide = unfold width in (omega arith)
 
-module _ {h : Header} (r : Right h) (plan : ℕ → ℕ) where
+module _ {h : Header} (r : WellFormed h) (plan : ℕ → ℕ) where
   missing-few : (k : ℕ) → k < layersMost → planesOf h k - plan k ≤ placesMost
   missing-few k l = omega (arith, counts-few r k l)
 

@@ -11,7 +11,7 @@ use Rattle.sheet.specs.Limits.{layersMost}
 use Rattle.layers.proofs.Carry.{carried-rising}
 use Rattle.header.specs.declared.Header.{Header}
 use Rattle.header.specs.Header.{planesOf}
-use Rattle.header.proofs.Rightness.{Right, counts-few}
+use Rattle.header.proofs.WellFormed.{WellFormed, counts-few}
 use Rattle.figure.specs.declared.Rule.{Rule}
 use Rattle.figure.specs.Workings.{ruleOf, carriedIn, carryOf, chargeOf, chargeIn}
 use Rattle.figure.proofs.Figures.{own-most}
@@ -37,7 +37,7 @@ module _ (h : Header) (k : ℕ) where
   carry-rising a b l = carried-rising (ruleOf h k .curve) a b l
 
 -- ---- what a layer adds
-module _ {h : Header} (r : Right h) (k n : ℕ) (l : k < layersMost) where
+module _ {h : Header} (r : WellFormed h) (k n : ℕ) (l : k < layersMost) where
   pub charge-told : n ≤ planesOf h k → chargeIn h k n ≡ chargeOf h k n
   unfolding chargeIn
   charge-told few = rw (lt-ltb _ _ l, le-leb _ _ (r .step), le-leb _ _ (counts-few r k l), le-leb _ _ few)

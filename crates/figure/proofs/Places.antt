@@ -14,7 +14,7 @@ use Rattle.layers.proofs.Standing.{standing-empty, standing-more}
 use Rattle.header.specs.declared.Header.{Header}
 use Rattle.header.specs.Header.{planesOf}
 use Rattle.header.proofs.Cells.{size-there, size-past}
-use Rattle.header.proofs.Rightness.{Right, layers-few, counts-past, counts-empty}
+use Rattle.header.proofs.WellFormed.{WellFormed, layers-few, counts-past, counts-empty}
 use Rattle.figure.specs.Figure.{ownLoss, figureOf}
 use Rattle.figure.specs.Workings.{ruleOf, carryOf, chargeOf}
 use Rattle.figure.proofs.Figures.{standing-small, standing-most}
@@ -24,7 +24,7 @@ unfoldable pub standing : Header → (ℕ → ℕ) → ℕ → ℕ
 standing h n zero = 0
 standing h n (suc k) = carryOf h k (standing h n k) + chargeOf h k (n k)
 
-module _ {h : Header} (r : Right h) (n : ℕ → ℕ) where
+module _ {h : Header} (r : WellFormed h) (n : ℕ → ℕ) where
   -- a layer without points
   still : (k : ℕ) → sizeAt (h .shape) k ≡ 0 → planesOf h k ≡ 0 → standing h n (suc k) ≡ standing h n k
   unfolding standing carryOf ruleOf C.carried chargeOf

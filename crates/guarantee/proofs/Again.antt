@@ -19,7 +19,7 @@ use Rattle.header.specs.Header.{planesOf, headerText}
 use Rattle.header.specs.Opening.{opening}
 use Rattle.header.specs.Refusals.{refusal}
 use Rattle.header.proofs.Opens.{Opens}
-use Rattle.header.proofs.Rightness.{Right}
+use Rattle.header.proofs.WellFormed.{WellFormed}
 use Rattle.packing.specs.Planes.{body, cardOf}
 use Rattle.loading.specs.InBytes.{coefsRead}
 use Rattle.card.specs.Reading.{Reading}
@@ -61,7 +61,7 @@ module _ (bs : List ℕ) (qs vs : List ℤ) (card : Readable bs qs vs) where
   opens : Opens bs h long
   opens = opens-right bs (passed .opens)
 
-  is-well-formed : Right h
+  is-well-formed : WellFormed h
   is-well-formed = right-header bs (passed .opens)
 
   -- the card of the coefficients read is the card

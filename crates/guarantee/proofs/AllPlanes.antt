@@ -21,7 +21,7 @@ use Rattle.sheet.proofs.Lists.{length-tabulate}
 use Rattle.sheet.proofs.Places.{point-on, point-in}
 use Rattle.header.specs.declared.Header.{Header}
 use Rattle.header.specs.Header.{placesMost, cellPoints, planesOf, planeCells, cellsOf}
-use Rattle.header.proofs.Rightness.{Right, counts-few, counts-past}
+use Rattle.header.proofs.WellFormed.{WellFormed, counts-few, counts-past}
 use Rattle.packing.specs.Planes.{planeBit, allBelow, enough, planesFor, countsFor, headerFor}
 use Rattle.loading.specs.InBytes.{clean, hasOne, fineBits, bitOf, fine, coefsRead}
 use Rattle.packing.proofs.All.{all-by, all-at}
@@ -31,7 +31,7 @@ use Rattle.guarantee.proofs.Carried.{Carries}
 use Rattle.guarantee.proofs.Coefficients.{full-holds, full-digit}
 use Rattle.guarantee.proofs.Taken.{Taken}
 
-module _ {h : Header} (r : Right h) {long : ℕ} {bs : List ℕ} (t : Taken h long bs (record { planes = h .planes })) where
+module _ {h : Header} (r : WellFormed h) {long : ℕ} {bs : List ℕ} (t : Taken h long bs (record { planes = h .planes })) where
   -- the coefficients read
   abbrev qs : List ℤ
   qs = coefsRead h long bs (planesOf h)

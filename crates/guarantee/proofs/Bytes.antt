@@ -10,7 +10,7 @@ use lib.Seq.{ext-getD, getD-drop}
 use Rattle.header.specs.declared.Header.{Header}
 use Rattle.header.specs.Header.{cellBytes, cellPoints, planeCells}
 use Rattle.order.specs.CardOrder.{cellsBefore}
-use Rattle.header.proofs.Rightness.{Right, few-planes}
+use Rattle.header.proofs.WellFormed.{WellFormed, few-planes}
 use Rattle.packing.specs.Planes.{body}
 use Rattle.loading.specs.InBytes.{bitAt, bitOf}
 use Rattle.packing.proofs.BodyOrder.{body-small, body-length}
@@ -30,7 +30,7 @@ bits-same (suc n) b c hb hc same =
     omega arith
 
 -- ---- as many bytes as the header names cells for
-module _ {h : Header} (r : Right h) {long : ℕ} {bs : List ℕ} {qs : List ℤ} (carries : Carries h long bs qs (record { planes = h .planes }))
+module _ {h : Header} (r : WellFormed h) {long : ℕ} {bs : List ℕ} {qs : List ℤ} (carries : Carries h long bs qs (record { planes = h .planes }))
     (bytes : (j : ℕ) → getD bs j 0 < 256) (whole : length bs ≡ long + cellBytes * h .cells) where
   -- bit i of byte j
   byte-bit : (j i : ℕ) → j < length (body h qs) → i < 8 → getD (body h qs) j 0 / 2 ^ i % 2 ≡ getD (drop long bs) j 0 / 2 ^ i % 2

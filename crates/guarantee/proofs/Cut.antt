@@ -14,7 +14,7 @@ use Rattle.header.specs.declared.Plan.{Plan}
 use Rattle.header.specs.Header.{cellBytes, cellPoints, planesOf, planeCells, headerText}
 use Rattle.header.specs.Opening.{opening}
 use Rattle.order.specs.CardOrder.{cellsBefore}
-use Rattle.header.proofs.Rightness.{right-by, layers-few, few-planes}
+use Rattle.header.proofs.WellFormed.{right-by, layers-few, few-planes}
 use Rattle.header.proofs.HeaderLines.{accepting}
 use Rattle.header.proofs.Cut.{cut-behind}
 use Rattle.order.proofs.Whole.{whole-fits, counted-whole}

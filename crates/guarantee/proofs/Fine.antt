@@ -18,7 +18,7 @@ use Rattle.header.specs.declared.Header.{Header}
 use Rattle.header.specs.declared.Plan.{Plan}
 use Rattle.header.specs.Header.{cellPoints, planesOf, planeCells}
 use Rattle.header.specs.Plan.{loads}
-use Rattle.header.proofs.Rightness.{layers-few}
+use Rattle.header.proofs.WellFormed.{layers-few}
 use Rattle.packing.specs.Planes.{planeBit, allBelow, headerFor}
 use Rattle.loading.specs.InBytes.{clean, hasOne, fineBits, bitOf, fine}
 use Rattle.packing.proofs.All.{all-by, all-at}

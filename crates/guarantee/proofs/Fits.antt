@@ -16,7 +16,7 @@ use Rattle.layers.specs.Layering.{layering, coefs}
 use Rattle.layers.specs.Workings.Loops.{Samples}
 use Rattle.sheet.proofs.Lists.{length-tabulate}
 use Rattle.header.specs.Header.{placesMost, cellBytes, headerText}
-use Rattle.header.proofs.Rightness.{Right, few-planes}
+use Rattle.header.proofs.WellFormed.{WellFormed, few-planes}
 use Rattle.packing.specs.Planes.{planesFor, countsFor, headerFor, cardOf}
 use Rattle.packing.proofs.Cards.{header-right, card-length}
 use Rattle.packing.proofs.BodyOrder.{body-length}
@@ -32,7 +32,7 @@ abbrev pub end : Shape → Curve → ℕ → List ℤ → ℕ
 end sh curve e qs = length (headerText (headerFor sh curve e qs))
 
 module _ {sh : Shape} {e : ℕ} {qs : List ℤ} (c : Fits sh e qs) (curve : Curve) where
-  pub fits-right : Right (headerFor sh curve e qs)
+  pub fits-right : WellFormed (headerFor sh curve e qs)
   fits-right = header-right sh (c .shape) qs curve e (c .step)
 
   pub fits-full : length (headerFor sh curve e qs .planes) ≡ layersMost

@@ -23,7 +23,7 @@ use Rattle.header.specs.declared.Plan.{Plan}
 use Rattle.header.specs.Header.{planesOf}
 use Rattle.header.specs.Plan.{loads}
 use Rattle.figure.specs.Figure.{figureOf}
-use Rattle.header.proofs.Rightness.{layers-few}
+use Rattle.header.proofs.WellFormed.{layers-few}
 use Rattle.packing.specs.Planes.{headerFor}
 use Rattle.loading.specs.InBytes.{coefRead, coefsRead}
 use Rattle.packing.proofs.Cards.{counts-at}

@@ -24,7 +24,7 @@ use Rattle.header.specs.declared.Plan.{Plan}
 use Rattle.header.specs.Header.{planesOf}
 use Rattle.header.specs.Plan.{loads, withPlane}
 use Rattle.order.specs.CardOrder.{whole}
-use Rattle.header.proofs.Rightness.{Right, right-by, layers-few}
+use Rattle.header.proofs.WellFormed.{WellFormed, right-by, layers-few}
 use Rattle.order.proofs.Whole.{whole-most}
 use Rattle.loading.specs.InBytes.{bitOf, fine, coefRead, coefsRead, coefsPlus, coefsWith}
 use Rattle.loading.proofs.Loads.{coefs-long}
@@ -37,7 +37,7 @@ coef-same : (h : Header) (long : ℕ) (bs : List ℕ) (plan more : ℕ → ℕ) 
 unfolding coefRead
 coef-same h long bs plan more k i e = rw e
 
-module _ {h : Header} (r : Right h) {long : ℕ} {bs : List ℕ} {plan : Plan} (places : length (plan .planes) ≡ layersMost) (t : Taken h long bs plan)
+module _ {h : Header} (r : WellFormed h) {long : ℕ} {bs : List ℕ} {plan : Plan} (places : length (plan .planes) ≡ layersMost) (t : Taken h long bs plan)
     (k : ℕ) (hk : k < layers (h .shape)) (room : loads plan k < whole h (length bs - long) k) where
   abbrev next : ℕ
   next = planesOf h k - suc (loads plan k)

@@ -24,7 +24,7 @@ use Rattle.header.specs.Header.{planesOf}
 use Rattle.header.specs.Plan.{loads}
 use Rattle.order.specs.CardOrder.{whole, wholePlan}
 use Rattle.figure.specs.Figure.{figureOf}
-use Rattle.header.proofs.Rightness.{Right, layers-few}
+use Rattle.header.proofs.WellFormed.{WellFormed, layers-few}
 use Rattle.order.proofs.Whole.{whole-past}
 use Rattle.packing.specs.Planes.{headerFor, cardOf}
 use Rattle.card.specs.Reading.{reading, showing}
@@ -38,7 +38,7 @@ use Rattle.guarantee.proofs.Near.{values-near}
 use Rattle.guarantee.proofs.Taken.{AsksWhole, passed-reads}
 
 -- ---- the figure of all whole planes
-module _ {h : Header} (r : Right h) (n : ℕ) where
+module _ {h : Header} (r : WellFormed h) (n : ℕ) where
   loads-whole : (k : ℕ) → loads (wholePlan h n) k ≡ whole h n k
   loads-whole k =
       elim (decLt k layersMost) [

@@ -19,7 +19,7 @@ use Rattle.header.specs.Refusals.{refusal}
 use Rattle.header.specs.Header.{planesOf}
 use Rattle.header.specs.Plan.{loads, withPlane}
 use Rattle.order.specs.CardOrder.{whole, wholePlan, wholeOf}
-use Rattle.header.proofs.Rightness.{Right, layers-few}
+use Rattle.header.proofs.WellFormed.{WellFormed, layers-few}
 use Rattle.packing.specs.Planes.{allHeld}
 use Rattle.loading.specs.InBytes.{fine, coefsRead}
 use Rattle.card.specs.Reading.{Reading}
@@ -40,7 +40,7 @@ module _ (h : Header) (long : ℕ) (bs : List ℕ) where
     pub taken : Taken h long bs plan
     pub same : r ≡ readAs h long bs plan
 
-  module _ (right : Right h) {plan : Plan} (places : length (plan .planes) ≡ layersMost) (t : Taken h long bs plan) (k : ℕ) where
+  module _ (right : WellFormed h) {plan : Plan} (places : length (plan .planes) ≡ layersMost) (t : Taken h long bs plan) (k : ℕ) where
     abbrev coefficients : List ℤ
     coefficients = coefsRead h long bs (loads plan)
 

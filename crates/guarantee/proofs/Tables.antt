@@ -2,7 +2,7 @@
 use mathlib.Core.Path.{sym, _∙_}
 use native.Mathlib.Omega.{arith}
 use Rattle.digits.proofs.Groups.{entry-is, entry-sum, by-groups}
-use Rattle.header.proofs.Rightness.{right-yes, few-planes}
+use Rattle.header.proofs.WellFormed.{right-yes, few-planes}
 use Rattle.loading.specs.InBytes.{wordRead}
 use Rattle.loading.proofs.ReadWords.{number-read, word-small}
 use Rattle.guarantee.specs.Groups.{Groups}

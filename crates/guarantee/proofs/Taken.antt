@@ -23,7 +23,7 @@ use Rattle.order.specs.Workings.{slotNo}
 use Rattle.header.proofs.HeaderLines.{accepting, lines-of, opening-of}
 use Rattle.header.proofs.Opens.{Opens, opened-right}
 use Rattle.header.proofs.Over.{none-over}
-use Rattle.header.proofs.Rightness.{Right, right-yes, few-planes}
+use Rattle.header.proofs.WellFormed.{WellFormed, right-yes, few-planes}
 use Rattle.loading.specs.InBytes.{fine, loaded, badSlot, firstBad}
 use Rattle.card.specs.Reading.{firstRefusal, readOpened, reading}
 use Rattle.loading.proofs.Loads.{within}
@@ -37,7 +37,7 @@ module _ (bs : List ℕ) {h : Header} {long : ℕ} (e : opening bs ≡ accepting
   pub opens-right : Opens bs h long
   opens-right = subst (λ (o : Opening). Opens bs (o .header) (o .long)) e (opened-right bs (ap (λ (o : Opening). o .refused .number) e))
 
-  pub right-header : Right h
+  pub right-header : WellFormed h
   right-header = right-yes h (opens-right .right-is)
 
 module _ (h : Header) (long : ℕ) (bs : List ℕ) where
@@ -84,7 +84,7 @@ module _ (h : Header) (long : ℕ) (bs : List ℕ) where
     unfolding firstBad
     fine-passes f = le-ltb bad all (omega (arith, first-none (badSlot h long bs (loads plan)) all 0 (λ t _ _. slot-good f t)))
 
-    passes-fine : Right h → ltb bad all ≡ false → AllFine plan
+    passes-fine : WellFormed h → ltb bad all ≡ false → AllFine plan
     unfolding badSlot firstBad
     passes-fine r e k p hk named asked =
         let t = slotNo h k p in

@@ -25,7 +25,7 @@ use Rattle.text.proofs.Search.{has-end, no-end}
 use Rattle.header.specs.Refusals.{refusal}
 use Rattle.header.specs.Header.{placesMost, ascii}
 use Rattle.header.specs.Opening.{notOpened, planesMost, limits, openingPlanes, openingCells}
-use Rattle.header.proofs.Rightness.{most-le, most-past}
+use Rattle.header.proofs.WellFormed.{most-le, most-past}
 use Rattle.header.proofs.Counts.{Counted, counts-read}
 use Rattle.header.proofs.HeaderLines.{headed}
 use Rattle.header.proofs.Opens.{padded-in, padded-past}

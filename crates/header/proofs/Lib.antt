@@ -1,7 +1,7 @@
 pub mod Over
 pub mod Totals
 pub mod Cells
-pub mod Rightness
+pub mod WellFormed
 pub mod Counts
 pub mod Ends
 pub mod CurveLine

@@ -24,7 +24,7 @@ use Rattle.text.proofs.Search.{starts-split}
 use Rattle.header.specs.declared.Header.{Header}
 use Rattle.header.specs.Header.{cellBytes, ascii, planesOf, headerText}
 use Rattle.header.specs.Opening.{planesMost, wellFormed, opening}
-use Rattle.header.proofs.Rightness.{Right, right-by}
+use Rattle.header.proofs.WellFormed.{WellFormed, right-by}
 use Rattle.header.proofs.Counts.{Counted, counts-read}
 use Rattle.header.proofs.Ends.{Ends, ends-at, ends-number, Front, front-first, front-next}
 use Rattle.header.proofs.CurveLine.{read-curve}
@@ -86,7 +86,7 @@ module _ (bs : List ℕ) (h : Header) (long : ℕ) (s : HeaderLines bs h long) w
   few : length (s .counts) ≤ layersMost
   few = omega (arith, counted .long, layers-few (h .shape) sizes)
 
-  pub lines-right : Right h
+  pub lines-right : WellFormed h
   lines-right =
       record {
         shape = accepted-by (h .shape) sizes;

@@ -21,14 +21,14 @@ use Rattle.text.proofs.Search.{Free, end-inside, free-append, starts-append}
 use Rattle.header.specs.declared.Header.{Header}
 use Rattle.header.specs.Header.{asciiFrom, ascii, cellBytes, headerText}
 use Rattle.header.specs.Opening.{limits, wellFormed, opening}
-use Rattle.header.proofs.Rightness.{Right, right-yes, one-sheet, layers-few, counts-past}
+use Rattle.header.proofs.WellFormed.{WellFormed, right-yes, one-sheet, layers-few, counts-past}
 use Rattle.header.proofs.Counts.{counts-written}
 use Rattle.header.proofs.Ends.{ended, seam-end, seam-inside, seam-front, seam-length, rest-next}
 use Rattle.header.proofs.CurveLine.{curveWords, curveCode, code-curve, written-curve}
 use Rattle.header.proofs.Turns.{PlanesLine}
 use Rattle.header.proofs.HeaderLines.{HeaderLines, accepting, opening-of}
 
-module _ (h : Header) (r : Right h) (full : length (h .planes) ≡ layersMost) where
+module _ (h : Header) (r : WellFormed h) (full : length (h .planes) ≡ layersMost) where
   abbrev counts : List ℕ
   counts = take (layers (h .shape)) (h .planes)
 

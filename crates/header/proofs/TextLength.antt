@@ -21,7 +21,7 @@ use Rattle.text.proofs.Joins.{joined-length}
 use Rattle.header.specs.declared.Header.{Header}
 use Rattle.header.specs.Header.{asciiFrom, cellBytes, curveText, planesOf, headerText}
 use Rattle.header.specs.Workings.{textMost}
-use Rattle.header.proofs.Rightness.{Right, layers-few, counts-few}
+use Rattle.header.proofs.WellFormed.{WellFormed, layers-few, counts-few}
 use Rattle.header.proofs.Total.{right-cells}
 
 curve-length : (c : Curve) → length (curveText c) ≤ 6
@@ -70,7 +70,7 @@ module _ (h : Header) where
 abbrev pub rightText : ℕ
 rightText = 384
 
-pub right-fits : {h : Header} → Right h → length (headerText h) ≤ rightText
+pub right-fits : {h : Header} → WellFormed h → length (headerText h) ≤ rightText
 right-fits {h} r =
     omega (
       arith,
@@ -87,5 +87,5 @@ right-fits {h} r =
     sizes : Sheet (h .shape)
     sizes = accepted-yes (h .shape) (r .shape)
 
-pub card-fits : {h : Header} → Right h → length (headerText h) + cellBytes * h .cells ≤ 32768
+pub card-fits : {h : Header} → WellFormed h → length (headerText h) + cellBytes * h .cells ≤ 32768
 card-fits r = omega (arith, right-fits r, right-cells r)

@@ -22,7 +22,7 @@ use Rattle.header.specs.declared.Header.{Header}
 use Rattle.header.specs.Header.{placesMost, cellPoints, planeCells, cellsOf}
 use Rattle.header.specs.Workings.{planeCellsMost, placeCellsMost, cellsMost, cellsAt, spansOf}
 use Rattle.header.proofs.Cells.{span-listed, span-past}
-use Rattle.header.proofs.Rightness.{Right, counts-few, layers-few}
+use Rattle.header.proofs.WellFormed.{WellFormed, counts-few, layers-few}
 
 -- a plane wastes less than a cell
 pub plane-waste : (sh : Shape) (k : ℕ) → cellPoints * planeCells sh k ≤ layerSize sh k + (cellPoints - 1)
@@ -57,7 +57,7 @@ module _ (sh : Shape) (ok : accepted sh ≡ true) where
     unfolding cellsOf
     cells-most = omega (arith, layers-most, products (planeCells sh) (λ k. getD planes k 0) placesMost (layers sh) few)
 
-pub right-cells : {h : Header} → Right h → h .cells ≤ cellsMost
+pub right-cells : {h : Header} → WellFormed h → h .cells ≤ cellsMost
 right-cells {h} r = omega (arith, r .cells, cells-most (h .shape) (r .shape) (h .planes) (λ k l. counts-few r k (omega (arith, layers-few r))))
 
 -- one plane of a layer that may not be there

@@ -77,7 +77,7 @@ pub fn first_over(limit: [u64; MOST_LAYERS], plan: [u64; MOST_LAYERS]) -> usize
 }
 
 // Are these a shape that is accepted and counts that a header of it may have? `spans` are the cells of one plane of each layer.
-fn right_counts(shape: Shape, spans: [u64; MOST_LAYERS], planes: [u64; MOST_LAYERS]) -> bool
+fn counts_fit(shape: Shape, spans: [u64; MOST_LAYERS], planes: [u64; MOST_LAYERS]) -> bool
     requires { ⌜ spans ≡ W.spansOf shape ⌝ }
     ensures { λ r. ⌜ r ≡ O.countsFit shape planes ⌝ }
 {
@@ -92,7 +92,7 @@ pub fn total_cells(shape: Shape, planes: [u64; MOST_LAYERS]) -> u64
     ensures { λ r. ⌜ r ≡ W.cellsNamed shape planes ⌝ }
 {
     let spans = spans_of(shape);
-    if right_counts(shape, spans, planes) {
+    if counts_fit(shape, spans, planes) {
         return cells_of(spans, planes);
     }
     0
@@ -108,7 +108,7 @@ pub fn is_well_formed(header: Header) -> bool
     let shape = header.shape;
     let planes = header.planes;
     let spans = spans_of(shape);
-    if !right_counts(shape, spans, planes) {
+    if !counts_fit(shape, spans, planes) {
         return false;
     }
     header.cells == cells_of(spans, planes)

@@ -26,7 +26,7 @@ use Rattle.header.specs.Opening.{wellFormed}
 use Rattle.order.specs.CardOrder.{slots, cellsBefore, isWhole, whole, wholePlan}
 use Rattle.order.specs.Workings.{cellsBeforeIn, wholeIn}
 use Rattle.header.proofs.Over.{over-none, none-over}
-use Rattle.header.proofs.Rightness.{right-yes, layers-few}
+use Rattle.header.proofs.WellFormed.{right-yes, layers-few}
 use Rattle.order.proofs.Whole.{whole-fits, fits-whole, whole-most, counted-whole}
 use Rattle.packing.specs.Planes.{allHeld}
 use Rattle.loading.specs.InBytes.{bitAt, fineBits, fine, firstBad, coefsRead, coefsPlus, coefsWith}

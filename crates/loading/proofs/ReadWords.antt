@@ -25,7 +25,7 @@ use Rattle.layers.specs.Layering.{ownLayer}
 use Rattle.header.specs.declared.Header.{Header}
 use Rattle.header.specs.Header.{placesMost, planesOf}
 use Rattle.header.specs.Opening.{wellFormed}
-use Rattle.header.proofs.Rightness.{Right, right-yes, few-planes}
+use Rattle.header.proofs.WellFormed.{WellFormed, right-yes, few-planes}
 use Rattle.header.proofs.Totals.{total-same}
 use Rattle.loading.specs.InBytes.{bitAt, bitOf, loaded, coefRead, wordRead, coefsRead}
 use Rattle.packing.specs.Workings.Words.{blockStart}
@@ -99,7 +99,7 @@ module _ (h : Header) (long : ℕ) (bs : List ℕ) (plan : ℕ → ℕ) where
       ∙ value-past (planesOf h k) placesMost (digitRead k i) few (digit-past k i)
 
   -- THE READING: the numbers of all words are the coefficients that the planes of the plan give
-  pub read-same : (ws : List ℕ) → Right h → Read h long bs plan ws → spreadAll (h .shape) ws ≡ coefsRead h long bs plan
+  pub read-same : (ws : List ℕ) → WellFormed h → Read h long bs plan ws → spreadAll (h .shape) ws ≡ coefsRead h long bs plan
   unfolding spreadAll coefsRead
   read-same ws r w =
       ext-getD (pos 0) _ _ (length-tabulate _ _ ∙ sym (length-tabulate _ _))

@@ -67,6 +67,7 @@ module _ (h : Header) (long : ℕ) (bs : List ℕ) where
     unfoldable pub wordRead : ℕ → ℕ → ℕ
     wordRead k i = total (λ p. cond (loaded h plan k p) (bitOf k p i * 2 ^ p) 0) placesMost
 
+    -- all of them, each at its point's place
     unfoldable pub coefsRead : List ℤ
     coefsRead =
         tabulate (points (h .shape)) (λ j.

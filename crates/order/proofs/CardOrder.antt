@@ -15,7 +15,7 @@ use Rattle.header.specs.Header.{placesMost, planesOf, planeCells, cellsOf}
 use Rattle.header.specs.Workings.{spansOf}
 use Rattle.order.specs.CardOrder.{planesBefore, cellsBefore}
 use Rattle.order.specs.Workings.{cellsThrough}
-use Rattle.header.proofs.Rightness.{Right, layers-few}
+use Rattle.header.proofs.WellFormed.{WellFormed, layers-few}
 use Rattle.header.proofs.Cells.{cells-there, cells-past, span-listed}
 use Rattle.header.proofs.Totals.{total-same, total-le, total-none, total-past, total-bump}
 
@@ -115,7 +115,7 @@ module _ (h : Header) where
       (λ j i. mul-le-mul-left (planeCells (h .shape) j) (let e : planesBefore (h .planes) (suc k) p j ≤ planesBefore (h .planes) (layers (h .shape)) 0 j = rw (before-passed (h .planes) 0 (layers (h .shape)) j i) (omega arith) in e))))
 
 -- ---- the cells of one plane in a list, as the loops have them
-module _ (h : Header) (r : Right h) (k p : ℕ) (hk : k < layers (h .shape)) where
+module _ (h : Header) (r : WellFormed h) (k p : ℕ) (hk : k < layers (h .shape)) where
   pub cells-through : cellsThrough (spansOf (h .shape)) (h .planes) k p ≡ cellsBefore h k p + planeCells (h .shape) k
   unfolding cellsThrough cellsBefore
   cells-through =

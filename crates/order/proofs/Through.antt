@@ -17,7 +17,7 @@ use Rattle.header.specs.Header.{placesMost, cellBytes, planesOf}
 use Rattle.header.specs.Workings.{planeCellsMost, spansOf}
 use Rattle.order.specs.CardOrder.{planesBefore, isWhole, whole}
 use Rattle.order.specs.Workings.{within}
-use Rattle.header.proofs.Rightness.{Right, all-few, counts-past}
+use Rattle.header.proofs.WellFormed.{WellFormed, all-few, counts-past}
 use Rattle.header.proofs.Totals.{total-most}
 use Rattle.order.proofs.CardOrder.{cells-through}
 use Rattle.header.proofs.Total.{span-most}
@@ -38,7 +38,7 @@ module _ (spans planes : List ℕ) (k : ℕ) where
   shares-most small p n = total-most (share p) (planeCellsMost * placesMost) n (λ j _. share-most small p j)
 
 -- ---- of a header
-pub header-small : (h : Header) → Right h → length (h .planes) ≡ layersMost → Small (spansOf (h .shape)) (h .planes)
+pub header-small : (h : Header) → WellFormed h → length (h .planes) ≡ layersMost → Small (spansOf (h .shape)) (h .planes)
 header-small h r long j = (span-most (h .shape) j, all-few (h .shape) (h .planes) long (r .counts) j)
 
 module _ (n : ℕ) {room : ℕ} (is : room ≡ n / cellBytes) where
@@ -50,7 +50,7 @@ module _ (n : ℕ) {room : ℕ} (is : room ≡ n / cellBytes) where
         | no l ↦ rw (le-leb cells room (omega arith), le-leb (cellBytes * cells) n (omega arith))
       ]
 
-  module _ (h : Header) (r : Right h) (k : ℕ) (hk : k < layersMost) where
+  module _ (h : Header) (r : WellFormed h) (k : ℕ) (hk : k < layersMost) where
     pub within-whole : count (within (spansOf (h .shape)) (h .planes) room k) (planesOf h k) ≡ whole h n k
     unfolding whole isWhole
     within-whole =

@@ -14,7 +14,7 @@ use Rattle.sheet.proofs.Lists.{count-most, count-all}
 use Rattle.header.specs.declared.Header.{Header}
 use Rattle.header.specs.Header.{cellBytes, planesOf, planeCells, cellsOf}
 use Rattle.order.specs.CardOrder.{cellsBefore, isWhole, whole}
-use Rattle.header.proofs.Rightness.{Right, counts-past}
+use Rattle.header.proofs.WellFormed.{WellFormed, counts-past}
 use Rattle.order.proofs.CardOrder.{cells-fall, cells-within}
 use Rattle.order.proofs.Tops.{Rising, top-law}
 
@@ -62,7 +62,7 @@ module _ (h : Header) (n k : ℕ) where
         ∙ count-all (isWhole h n k) (planesOf h k) (λ p i. fits-whole p (omega (arith, cells-within h k p hk i)))
 
 -- behind a right header all planes are whole where all its cells are there
-pub whole-right : (h : Header) → Right h → (n : ℕ) → cellBytes * h .cells ≤ n → (k : ℕ) → k < layersMost → whole h n k ≡ planesOf h k
+pub whole-right : (h : Header) → WellFormed h → (n : ℕ) → cellBytes * h .cells ≤ n → (k : ℕ) → k < layersMost → whole h n k ≡ planesOf h k
 whole-right h r n l k i =
     elim (decLt k (layers (h .shape))) [
       | yes y ↦ whole-all h n k y (omega (arith, r .cells))

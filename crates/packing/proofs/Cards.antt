@@ -26,7 +26,7 @@ use Rattle.header.specs.declared.Header.{Header}
 use Rattle.header.specs.Header.{placesMost, cellBytes, cellsOf, headerText}
 use Rattle.header.specs.Workings.{cellsMost, textMost, cellsNamed}
 use Rattle.header.specs.Opening.{planesMost, wellFormed}
-use Rattle.header.proofs.Rightness.{Right, counts-by, right-yes, right-by, most-some, few-planes}
+use Rattle.header.proofs.WellFormed.{WellFormed, counts-by, right-yes, right-by, most-some, few-planes}
 use Rattle.text.proofs.Stores.{sets-sets}
 use Rattle.order.specs.CardOrder.{inOrder}
 use Rattle.header.proofs.TextLength.{right-fits}
@@ -72,7 +72,7 @@ module _ (sh : Shape) (ok : accepted sh ≡ true) (qs : List ℤ) where
 
   module _ (curve : Curve) (e : ℕ) (step : e ≤ stepMost) where
     -- and the header is right
-    pub header-right : Right (headerFor sh curve e qs)
+    pub header-right : WellFormed (headerFor sh curve e qs)
     header-right = record { shape = ok; step = step; counts = counts-most sh qs; cells = refl }
 
     pub card-length : length (cardOf sh curve e qs) ≡ length (headerText (headerFor sh curve e qs)) + length (body (headerFor sh curve e qs) qs)

@@ -8,7 +8,7 @@ use Rattle.header.specs.declared.Header.{Header}
 use Rattle.header.specs.Header.{total}
 use Rattle.header.specs.Plan.{layersMost}
 use Rattle.header.proofs.Cells.{cells-places}
-use Rattle.header.proofs.Rightness.{Right}
+use Rattle.header.proofs.WellFormed.{WellFormed}
 use Rattle.figure.specs.Figure.{figureOf}
 use Rattle.figure.specs.Workings.{carryOf, chargeOf}
 use Rattle.figure.proofs.Places as P
@@ -25,7 +25,7 @@ unfolding cells total
 cells-total L n zero = refl
 cells-total L n (suc k) = omega (arith, cells-total L n k)
 
-module _ {h : Header} (r : Right h) where
+module _ {h : Header} (r : WellFormed h) where
   pub cells-same : (ns : List ℕ) → cells (layersOf h) (counts ns) layersMost ≡ cellsIn h ns
   cells-same ns = cells-total (layersOf h) (counts ns) layersMost ∙ cells-places (h .shape) (r .shape) ns
 

@@ -10,7 +10,7 @@ use Rattle.header.specs.declared.Header.{Header}
 use Rattle.header.specs.Workings.{cellsMost}
 use Rattle.header.specs.Plan.{layersMost}
 use Rattle.header.specs.Opening.{wellFormed}
-use Rattle.header.proofs.Rightness.{right-yes, counts-few, layers-few}
+use Rattle.header.proofs.WellFormed.{right-yes, counts-few, layers-few}
 use Rattle.header.proofs.Total.{cells-most}
 use Rattle.header.proofs.Totals.{total-rises}
 use Rattle.planner.specs.Workings.Table.{Layers, layersOf, cells, reach, none, leastOf, choice, best}

@@ -13,7 +13,7 @@ use Rattle.header.specs.Header.{planesOf}
 use Rattle.header.specs.Plan.{layersMost}
 use Rattle.header.specs.Opening.{wellFormed}
 use Rattle.header.proofs.Over.{none-over}
-use Rattle.header.proofs.Rightness.{Right, right-yes}
+use Rattle.header.proofs.WellFormed.{WellFormed, right-yes}
 use Rattle.figure.specs.Workings.{boundOf}
 use Rattle.figure.proofs.FigureCall.{bound-right}
 use Rattle.figure.proofs.Figures.{figure-all}
@@ -42,7 +42,7 @@ module _ (h : Header) (ok : wellFormed h ≡ true) where
   abbrev left : List ℕ → ℕ
   left ns = standing (layersOf h) (counts ns) layersMost
 
-  is-well-formed : Right h
+  is-well-formed : WellFormed h
   is-well-formed = right-yes h ok
 
   -- ---- some entry is reached

@@ -14,7 +14,7 @@ use Rattle.header.specs.Header.{planeCells}
 use Rattle.header.specs.Opening.{wellFormed}
 use Rattle.order.specs.CardOrder.{cellsBefore}
 use Rattle.order.specs.Workings.{cellsThrough, cellsBeforeIn}
-use Rattle.header.proofs.Rightness.{Right, right-yes, counts-past}
+use Rattle.header.proofs.WellFormed.{WellFormed, right-yes, counts-past}
 use Rattle.header.proofs.Cells.{cells-there, span-listed}
 use Rattle.order.proofs.CardOrder.{cells-through}
 use Rattle.order.proofs.Through.{Small, header-small}
@@ -27,7 +27,7 @@ S e = e .before .before
 is-so : (e : tie.Else1) → wellFormed (S e .args .header) ≡ true
 is-so e = sym (e .before .is-well-formed .ensures) ∙ not-false _ (e .if1 .left)
 
-rightly : (e : tie.Else1) → Right (S e .args .header)
+rightly : (e : tie.Else1) → WellFormed (S e .args .header)
 rightly e = right-yes (S e .args .header) (is-so e)
 
 long : (s : tie.Start) → length (s .args .header .planes) ≡ layersMost

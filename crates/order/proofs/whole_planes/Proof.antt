@@ -16,7 +16,7 @@ use Rattle.header.specs.Opening.{wellFormed}
 use Rattle.order.specs.CardOrder.{whole}
 use Rattle.order.specs.Workings.{wholeIn, Walked}
 use Rattle.header.proofs.Fills.{filled-all}
-use Rattle.header.proofs.Rightness.{Right, right-yes}
+use Rattle.header.proofs.WellFormed.{WellFormed, right-yes}
 use Rattle.order.proofs.Through.{Small, header-small, within-whole}
 use Rattle.order.proofs.Walk.{walk-first, walk-down, walk-last}
 use Rattle.order.proofs.whole_planes.Statement.{statement}
@@ -34,7 +34,7 @@ S e = e .before .before
 is-so : (e : tie.Else1 Inv-loop μ-loop) → wellFormed (S e .args .header) ≡ true
 is-so e = sym (e .before .is-well-formed .ensures) ∙ not-false _ (e .if1 .left)
 
-rightly : (e : tie.Else1 Inv-loop μ-loop) → Right (S e .args .header)
+rightly : (e : tie.Else1 Inv-loop μ-loop) → WellFormed (S e .args .header)
 rightly e = right-yes (S e .args .header) (is-so e)
 
 long : (s : tie.Start Inv-loop μ-loop) → length (s .args .header .planes) ≡ layersMost

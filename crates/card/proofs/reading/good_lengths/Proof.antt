@@ -4,7 +4,7 @@ use denote.Ref.{now}
 use borrow.Author.Needs.{needs}
 use Rattle.sheet.specs.Sheet.{points}
 use Rattle.sheet.proofs.Accepting.{points-in}
-use Rattle.header.proofs.Rightness.{right-yes}
+use Rattle.header.proofs.WellFormed.{right-yes}
 use Rattle.card.proofs.ReadCall.{lengths-by, lengths-differ}
 use Rattle.card.proofs.reading.good_lengths.Statement.{statement}
 use Rattle.card.proofs.reading.good_lengths.Tie as tie

@@ -12,7 +12,7 @@ use Rattle.sheet.proofs.Accepting.{count-is}
 use Rattle.header.specs.declared.Plan.{Plan}
 use Rattle.header.specs.Header.{planesOf}
 use Rattle.header.specs.Plan.{loads}
-use Rattle.header.proofs.Rightness.{Right, right-yes, layers-few}
+use Rattle.header.proofs.WellFormed.{WellFormed, right-yes, layers-few}
 use Rattle.order.specs.CardOrder.{wholeOf}
 use Rattle.card.specs.declared.Reached.{Reached}
 use Rattle.card.specs.Reading.{asReading}
@@ -32,7 +32,7 @@ Vs s = now (s .args .values)
 abbrev Bs : tie.Start → List ℕ
 Bs s = now (s .args .bytes)
 
-right : (s : tie.Start) → Right (s .args .header)
+right : (s : tie.Start) → WellFormed (s .args .header)
 right s = right-yes (s .args .header) (s .pre .0 .0)
 
 count : (c : tie.After-layer-count) → c .layer-count .result ≡ layers (S c .args .header .shape)

@@ -9,7 +9,7 @@ use Rattle.sheet.specs.Limits.{layersMost}
 use Rattle.header.specs.Header.{planesOf}
 use Rattle.header.specs.Plan.{loads}
 use Rattle.header.proofs.Over.{over-none}
-use Rattle.header.proofs.Rightness.{Right, right-yes}
+use Rattle.header.proofs.WellFormed.{WellFormed, right-yes}
 use Rattle.figure.specs.Workings.{carryOf, chargeOf}
 use Rattle.figure.proofs.LayerRules.{carried-told, charge-told}
 use Rattle.figure.proofs.Places.{standing as stands, figure-same, below}
@@ -25,7 +25,7 @@ abbrev μ-loop : tie.MeasureT-loop
 abbrev S : tie.At-loop Inv-loop μ-loop → tie.Start Inv-loop μ-loop
 S l = l .before .before
 
-rightly : (s : tie.Start Inv-loop μ-loop) → Right (s .args .header)
+rightly : (s : tie.Start Inv-loop μ-loop) → WellFormed (s .args .header)
 rightly s = right-yes (s .args .header) (s .pre .0)
 
 -- what stands

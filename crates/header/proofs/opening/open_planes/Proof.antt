@@ -22,7 +22,7 @@ use Rattle.header.specs.Workings.{spansOf, cellsBy, limitsBy}
 use Rattle.header.specs.Opening.{planesMost}
 use Rattle.header.proofs.Total.{cells-most, span-most}
 use Rattle.header.proofs.Cells.{cells-by}
-use Rattle.header.proofs.Rightness.{limits-by}
+use Rattle.header.proofs.WellFormed.{limits-by}
 use Rattle.header.proofs.Taking.{starts-as}
 use Rattle.header.proofs.Counting.{Kept, kept, kept-few, not-read, planes-short, planes-other, planes-wrong, planes-right}
 use Rattle.header.proofs.opening.open_planes.Statement.{statement}

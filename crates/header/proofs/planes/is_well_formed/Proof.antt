@@ -11,7 +11,7 @@ use Rattle.sheet.specs.Limits.{layersMost, stepMost}
 use Rattle.header.specs.Workings.{cellsBy}
 use Rattle.header.specs.Opening.{countsFit, wellFormed}
 use Rattle.header.proofs.Cells.{cells-by}
-use Rattle.header.proofs.Rightness.{counts-yes, all-few}
+use Rattle.header.proofs.WellFormed.{counts-yes, all-few}
 use Rattle.header.proofs.Total.{span-most}
 use Rattle.header.proofs.planes.is_well_formed.Statement.{statement}
 use Rattle.header.proofs.planes.is_well_formed.Tie as tie
@@ -32,15 +32,15 @@ returns c = rw (lt-leb _ _ (c .if1 .taken))
 spans-of-requires : tie.Need-spans-of-requires
 spans-of-requires c κs = search needs
 
-right-counts-requires : tie.Need-right-counts-requires
-right-counts-requires c κs = c .spans-of .ensures
+counts-fit-requires : tie.Need-counts-fit-requires
+counts-fit-requires c κs = c .spans-of .ensures
 
 returns-2 : tie.Need-returns-2
 unfolding wellFormed
-returns-2 c = rw (is-small (c .before .before), sym (c .before .right-counts .ensures) ∙ not-true _ (c .if2 .taken))
+returns-2 c = rw (is-small (c .before .before), sym (c .before .counts-fit .ensures) ∙ not-true _ (c .if2 .taken))
 
 yes-counts : (c : tie.Else2) → (let h = S (c .before .before) .args .header in countsFit (h .shape) (h .planes) ≡ true)
-yes-counts c = sym (c .before .right-counts .ensures) ∙ not-false _ (c .if2 .left)
+yes-counts c = sym (c .before .counts-fit .ensures) ∙ not-false _ (c .if2 .left)
 
 cells-of-requires : tie.Need-cells-of-requires
 cells-of-requires c κs =
@@ -59,4 +59,4 @@ returns-3 c =
     rw (is-small a, yes-counts e, total)
 
 pub is-well-formed-spec : {M : Type 1} → statement M
-is-well-formed-spec = tie.close (tie.spec returns spans-of-requires right-counts-requires returns-2 cells-of-requires returns-3)
+is-well-formed-spec = tie.close (tie.spec returns spans-of-requires counts-fit-requires returns-2 cells-of-requires returns-3)

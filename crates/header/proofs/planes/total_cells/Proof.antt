@@ -1,4 +1,4 @@
--- Right counts are at most `placesMost`, as the sum of the cells asks, and the spans are those of the shape.
+-- WellFormed counts are at most `placesMost`, as the sum of the cells asks, and the spans are those of the shape.
 use Prim.Native.Nat.{ℕ}
 use mathlib.Core.Bool.{true}
 use mathlib.Core.List.{List}
@@ -9,7 +9,7 @@ use Rattle.sheet.specs.Limits.{layersMost}
 use Rattle.header.specs.Workings.{cellsBy, cellsNamed}
 use Rattle.header.specs.Opening.{countsFit}
 use Rattle.header.proofs.Cells.{cells-by}
-use Rattle.header.proofs.Rightness.{counts-yes, all-few}
+use Rattle.header.proofs.WellFormed.{counts-yes, all-few}
 use Rattle.header.proofs.Total.{span-most}
 use Rattle.header.proofs.planes.total_cells.Statement.{statement}
 use Rattle.header.proofs.planes.total_cells.Tie as tie
@@ -17,11 +17,11 @@ use Rattle.header.proofs.planes.total_cells.Tie as tie
 spans-of-requires : tie.Need-spans-of-requires
 spans-of-requires c κs = search needs
 
-right-counts-requires : tie.Need-right-counts-requires
-right-counts-requires c κs = c .spans-of .ensures
+counts-fit-requires : tie.Need-counts-fit-requires
+counts-fit-requires c κs = c .spans-of .ensures
 
 yes-counts : (c : tie.Then1) → (let s = c .before .before .before in countsFit (s .args .shape) (s .args .planes) ≡ true)
-yes-counts c = sym (c .before .right-counts .ensures) ∙ c .if1 .taken
+yes-counts c = sym (c .before .counts-fit .ensures) ∙ c .if1 .taken
 
 cells-of-requires : tie.Need-cells-of-requires
 cells-of-requires c κs =
@@ -43,7 +43,7 @@ returns c =
 
 returns-2 : tie.Need-returns-2
 unfolding cellsNamed
-returns-2 c = rw (sym (c .before .right-counts .ensures) ∙ c .if1 .left)
+returns-2 c = rw (sym (c .before .counts-fit .ensures) ∙ c .if1 .left)
 
 pub total-cells-spec : {M : Type 1} → statement M
-total-cells-spec = tie.close (tie.spec spans-of-requires right-counts-requires cells-of-requires returns returns-2)
+total-cells-spec = tie.close (tie.spec spans-of-requires counts-fit-requires cells-of-requires returns returns-2)

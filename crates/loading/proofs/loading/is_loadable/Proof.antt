@@ -10,7 +10,7 @@ use lib.ListN.{length}
 use Rattle.layers.specs.Samples.{full}
 use Rattle.sheet.proofs.Accepting.{points-in}
 use Rattle.header.specs.Opening as O
-use Rattle.header.proofs.Rightness.{right-yes}
+use Rattle.header.proofs.WellFormed.{right-yes}
 use Rattle.loading.proofs.Loads.{loadable-wrong, loadable-short, loadable-by}
 use Rattle.loading.proofs.loading.is_loadable.Statement.{statement}
 use Rattle.loading.proofs.loading.is_loadable.Tie as tie

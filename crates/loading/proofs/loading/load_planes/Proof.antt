@@ -3,7 +3,7 @@ use mathlib.Core.Path.{sym, ap, _∙_}
 use borrow.Author.Needs.{needs}
 use denote.Ref.{now}
 use Rattle.header.specs.Plan.{loads}
-use Rattle.header.proofs.Rightness.{right-yes}
+use Rattle.header.proofs.WellFormed.{right-yes}
 use Rattle.loading.specs.Workings.Calls.{done}
 use Rattle.loading.proofs.Loads.{load-bad, load-fine}
 use Rattle.layers.proofs.Answers.{full-long}

@@ -15,7 +15,7 @@ use Rattle.header.specs.Header.{placesMost, cellBytes, planeCells}
 use Rattle.header.specs.Workings.{cellsMost, planeCellsMost}
 use Rattle.order.specs.CardOrder.{cellsBefore}
 use Rattle.header.proofs.Cells.{size-there, cells-there}
-use Rattle.header.proofs.Rightness.{Right, right-yes, layers-few, few-planes}
+use Rattle.header.proofs.WellFormed.{WellFormed, right-yes, layers-few, few-planes}
 use Rattle.header.proofs.Total.{plane-room, plane-most}
 use Rattle.packing.specs.Planes.{allHeld}
 use Rattle.loading.specs.InBytes.{bitAt, fine, coefsPlus}
@@ -35,7 +35,7 @@ Qs s = now (s .args .coefficients)
 abbrev Bs : tie.Start → List ℕ
 Bs s = now (s .args .bytes)
 
-right : (s : tie.Start) → Right (s .args .header)
+right : (s : tie.Start) → WellFormed (s .args .header)
 right s = right-yes (s .args .header) (loadable-right (Qs s) (Bs s) (s .args .header) (s .args .at) (s .pre .0))
 
 here : (s : tie.Start) → s .args .at ≤ length (Bs s)

@@ -11,7 +11,7 @@ use lib.IntN.{ℤ}
 use Rattle.sheet.specs.Limits.{layersMost}
 use Rattle.sheet.specs.Sheet.{layers}
 use Rattle.sheet.proofs.Accepting.{count-is}
-use Rattle.header.proofs.Rightness.{right-yes, layers-few}
+use Rattle.header.proofs.WellFormed.{right-yes, layers-few}
 use Rattle.loading.specs.Workings.Calls.{loadable}
 use Rattle.loading.proofs.Loads.{loadable-right, add-not-loadable, add-past, add-unnamed}
 use Rattle.loading.proofs.refining.add_plane.Statement.{statement}

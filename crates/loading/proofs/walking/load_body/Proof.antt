@@ -14,7 +14,7 @@ use Rattle.header.specs.Plan.{loads}
 use Rattle.order.specs.CardOrder.{cellsBefore}
 use Rattle.order.specs.Workings.{slotNo}
 use Rattle.order.proofs.CardOrder.{first-place, next-place}
-use Rattle.header.proofs.Rightness.{Right, right-yes, few-planes}
+use Rattle.header.proofs.WellFormed.{WellFormed, right-yes, few-planes}
 use Rattle.loading.specs.InBytes.{badSlot}
 use Rattle.loading.specs.declared.Placed.{Placed}
 use Rattle.loading.specs.declared.Placed.the-variants as Placed
@@ -48,7 +48,7 @@ plan s = loads (s .args .plan)
 abbrev K : tie.Start Inv-loop μ-loop → ℕ
 K s = layers (H s .shape)
 
-right : (s : tie.Start Inv-loop μ-loop) → Right (H s)
+right : (s : tie.Start Inv-loop μ-loop) → WellFormed (H s)
 right s = right-yes (H s) (s .pre .0 .0)
 
 none : (s : tie.Start Inv-loop μ-loop) → Partly (H s) (s .args .at) (now (s .args .bytes)) (plan s) 0 (now (s .args .words))

@@ -23,7 +23,7 @@ use Rattle.order.specs.CardOrder.{cellsBefore}
 use Rattle.order.specs.Workings.{slotNo}
 use Rattle.header.proofs.Total.{plane-room, plane-most}
 use Rattle.header.proofs.Cells.{size-there, cells-there}
-use Rattle.header.proofs.Rightness.{Right, right-yes, layers-few, few-planes}
+use Rattle.header.proofs.WellFormed.{WellFormed, right-yes, layers-few, few-planes}
 use Rattle.loading.specs.InBytes.{badSlot}
 use Rattle.packing.specs.Workings.Words.{wordsMost, blockStart}
 use Rattle.loading.specs.Workings.Words.{slotWords, Partly, FineBefore}
@@ -58,7 +58,7 @@ abbrev place : tie.At-loop Inv-loop μ-loop → ℕ
 place l = S l .args .at + cellBytes * cellsBefore (H (S l)) (l .loop .k) (S l .args .p)
 
 -- ---- what holds at entry
-right : (s : tie.Start Inv-loop μ-loop) → Right (H s)
+right : (s : tie.Start Inv-loop μ-loop) → WellFormed (H s)
 right s = right-yes (H s) (s .pre .0 .0)
 
 few : (s : tie.Start Inv-loop μ-loop) (j : ℕ) → j < layers (sh s) → planesOf (H s) j ≤ placesMost

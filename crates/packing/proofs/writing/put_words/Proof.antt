@@ -9,7 +9,7 @@ use Rattle.text.proofs.Padding.{padded-room, padded-take}
 use Rattle.header.specs.declared.HeaderText.{HeaderText}
 use Rattle.header.specs.Header.{headerText}
 use Rattle.header.specs.Workings.{textMost}
-use Rattle.header.proofs.Rightness.{right-yes}
+use Rattle.header.proofs.WellFormed.{right-yes}
 use Rattle.packing.proofs.Cards.{planes-long, flat-few, flat-none, flat-all}
 use Rattle.packing.proofs.writing.put_words.Statement.{statement}
 use Rattle.packing.proofs.writing.put_words.Tie as tie

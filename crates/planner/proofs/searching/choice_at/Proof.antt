@@ -5,7 +5,7 @@ use native.Mathlib.Omega.{arith}
 use borrow.Author.Needs.{needs}
 use lib.ListN.{getD}
 use Rattle.header.specs.Workings.{cellsAt}
-use Rattle.header.proofs.Rightness.{right-yes}
+use Rattle.header.proofs.WellFormed.{right-yes}
 use Rattle.figure.specs.Workings.{carryOf, chargeOf}
 use Rattle.figure.proofs.LayerRules.{carried-told, carry-double, charge-told, charge-most}
 use Rattle.planner.specs.Workings.Table.{layersOf, rowLength, none, best}

@@ -7,7 +7,7 @@ use borrow.Author.Count.{below-none, below-more}
 use borrow.Author.Needs.{needs}
 use lib.ListN.{getD}
 use Rattle.header.specs.Header.{placesMost, planesOf}
-use Rattle.header.proofs.Rightness.{right-yes, counts-few}
+use Rattle.header.proofs.WellFormed.{right-yes, counts-few}
 use Rattle.planner.specs.Workings.Table.{layersOf, rowLength, choice, best}
 use Rattle.planner.proofs.WalkBack.{preferred-here, preferred-last}
 use Rattle.planner.proofs.searching.preferred.Statement.{statement}

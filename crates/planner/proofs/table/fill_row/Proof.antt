@@ -4,7 +4,7 @@ use Prim.Native.Nat.{suc, _-_, _≤_}
 use native.Mathlib.Numerals.{add-one}
 use native.Mathlib.Omega.{arith}
 use Rattle.header.specs.Header.{placesMost, planesOf}
-use Rattle.header.proofs.Rightness.{right-yes, counts-few}
+use Rattle.header.proofs.WellFormed.{right-yes, counts-few}
 use Rattle.planner.specs.Workings.Table.{layersOf, Tried}
 use Rattle.planner.proofs.Filling.{tried-none, tried-all}
 use Rattle.planner.proofs.table.fill_row.Statement.{statement}

@@ -11,9 +11,9 @@ use Rattle.header.specs.Plan.{firstOver}
 use Rattle.header.specs.Opening.{planesMost, countsFit}
 use Rattle.header.specs.Workings.{limitsBy}
 use Rattle.header.proofs.Over.{over-listed}
-use Rattle.header.proofs.Rightness.{limits-by}
-use Rattle.header.proofs.planes.right_counts.Statement.{statement}
-use Rattle.header.proofs.planes.right_counts.Tie as tie
+use Rattle.header.proofs.WellFormed.{limits-by}
+use Rattle.header.proofs.planes.counts_fit.Statement.{statement}
+use Rattle.header.proofs.planes.counts_fit.Tie as tie
 
 abbrev counts : tie.Start → ℕ → ℕ
 counts s k = getD (s .args .planes) k 0
@@ -44,5 +44,5 @@ returns-2 c =
     let over = c .first-over .ensures ∙ ap (λ (ms : List ℕ). firstOver (λ k. getD ms k 0) (counts s)) limits ∙ over-listed (planesMost sh) (counts s) in
     rw (yes-shape e, over)
 
-pub right-counts-spec : {M : Type 1} → statement M
-right-counts-spec = tie.close (tie.spec accepted-requires returns limits-requires first-over-requires returns-2)
+pub counts-fit-spec : {M : Type 1} → statement M
+counts-fit-spec = tie.close (tie.spec accepted-requires returns limits-requires first-over-requires returns-2)

@@ -60,7 +60,7 @@ unfolding limitsBy
 limits-by sh ok = tabulate-same layersMost _ _ (λ k l. rw (span-listed sh k l, most-by sh k ok))
 
 -- ---- right counts
-pub record RightCounts (sh : Shape) (planes : List ℕ) : Type 0 where
+pub record CountsFit (sh : Shape) (planes : List ℕ) : Type 0 where
   pub shape : accepted sh ≡ true
   pub counts : (k : ℕ) → k < layersMost → getD planes k 0 ≤ planesMost sh k
 
@@ -68,12 +68,12 @@ module _ (sh : Shape) (planes : List ℕ) where
   abbrev none : Bool
   none = eqb (firstOver (planesMost sh) (λ k. getD planes k 0)) layersMost
 
-  pub counts-yes : countsFit sh planes ≡ true → RightCounts sh planes
+  pub counts-yes : countsFit sh planes ≡ true → CountsFit sh planes
   unfolding countsFit
   counts-yes e =
       record { shape = and-left (accepted sh) none e; counts = over-none (planesMost sh) (λ k. getD planes k 0) (eqb-true _ _ (and-right (accepted sh) none e)) }
 
-  pub counts-by : RightCounts sh planes → countsFit sh planes ≡ true
+  pub counts-by : CountsFit sh planes → countsFit sh planes ≡ true
   unfolding countsFit
   counts-by r = and-both (accepted sh) none (r .shape) (eq-eqb _ _ (none-over (planesMost sh) (λ k. getD planes k 0) (r .counts)))
 
@@ -86,7 +86,7 @@ module _ (sh : Shape) (planes : List ℕ) where
       ]
 
 -- ---- a right header
-pub record Right (h : Header) : Type 0 where
+pub record WellFormed (h : Header) : Type 0 where
   pub shape : accepted (h .shape) ≡ true
   pub step : h .step ≤ stepMost
   pub counts : (k : ℕ) → k < layersMost → planesOf h k ≤ planesMost (h .shape) k
@@ -102,7 +102,7 @@ module _ (h : Header) where
   abbrev total : Bool
   total = eqb (h .cells) (cellsOf (h .shape) (h .planes))
 
-  pub right-yes : wellFormed h ≡ true → Right h
+  pub right-yes : wellFormed h ≡ true → WellFormed h
   unfolding wellFormed
   right-yes e =
       let rest = and-right small (counted && total) e in
@@ -114,14 +114,14 @@ module _ (h : Header) where
         cells = eqb-true _ _ (and-right counted total rest);
       }
 
-  pub right-by : Right h → wellFormed h ≡ true
+  pub right-by : WellFormed h → wellFormed h ≡ true
   unfolding wellFormed
   right-by r =
       and-both small (counted && total) (le-leb (h .step) stepMost (r .step))
       (and-both counted total (counts-by (h .shape) (h .planes) (record { shape = r .shape; counts = r .counts })) (eq-eqb _ _ (r .cells)))
 
 -- ---- what follows
-module _ {h : Header} (r : Right h) where
+module _ {h : Header} (r : WellFormed h) where
   -- there is no line for a depth before stacks come, and no shape of another depth is accepted
   pub one-sheet : h .shape .depth ≡ 1
   one-sheet = let s = accepted-yes (h .shape) (r .shape) in omega (arith, s .thick, s .flat)
