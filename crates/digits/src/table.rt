@@ -2,7 +2,7 @@
 ghost use mathlib.Core.Path.{_≡_};
 ghost use Prim.Native.Nat.{_^_};
 ghost use Rattle.integers.specs.Distance.{Within};
-ghost use Rattle.digits.specs.Groups as W;
+ghost use Rattle.digits.specs.Groups as G;
 
 // The groups of eight digits.
 pub const GROUPS: usize = 256;
@@ -269,14 +269,14 @@ const VALUES: [i32; GROUPS] = [
 
 // The table, for a caller to lend to many calls: a constant is copied wherever it is named, and the copy costs more than the three look-ups.
 pub fn group_values() -> [i32; GROUPS]
-    ensures { λ r. ⌜ r ≡ W.groupValues ⌝ }
+    ensures { λ r. ⌜ r ≡ G.groupValues ⌝ }
 {
     VALUES
 }
 
 // The entry of a word's lowest group.
 fn entry(table: &[i32; GROUPS], word: u32) -> i64
-    ensures { λ r. ⌜ (r ≡ W.entry (now (table .entry)) word) × Within (2 ^ 31) (W.entry (now (table .entry)) word) ⌝ }
+    ensures { λ r. ⌜ (r ≡ G.entry (now (table .entry)) word) × Within (2 ^ 31) (G.entry (now (table .entry)) word) ⌝ }
 {
     let value = table[(word % 256) as usize];
     value as i64
@@ -284,7 +284,7 @@ fn entry(table: &[i32; GROUPS], word: u32) -> i64
 
 // The number of a word's three lowest groups: their entries times 1, 256 and 65,536, added.
 pub fn by_groups(table: &[i32; GROUPS], word: u32) -> i64
-    ensures { λ r. ⌜ r ≡ W.byGroups (now (table .entry)) word ⌝ }
+    ensures { λ r. ⌜ r ≡ G.byGroups (now (table .entry)) word ⌝ }
 {
     entry(table, word) + 256 * entry(table, word / 256) + 65536 * entry(table, word / 65536)
 }

@@ -6,7 +6,7 @@ ghost use Rattle.header.specs.Header as Hd;
 ghost use Rattle.header.specs.Plan as P;
 ghost use Rattle.header.specs.Opening as O;
 ghost use Rattle.figure.specs.Figure as F;
-ghost use Rattle.figure.specs.Bounding as Wk;
+ghost use Rattle.figure.specs.Bounding as B;
 ghost use Rattle.figure.specs.Workings as W;
 use crate::Bounded;
 use crate::rules::carried;
@@ -35,7 +35,7 @@ fn figure_of(header: Header, plan: Plan) -> u64
 // The figure of a plan of a well-formed header, unless the plan asks for more than its planes.
 fn bounded(header: Header, plan: Plan) -> Bounded
     requires { ⌜ O.wellFormed header ≡ true ⌝ }
-    ensures { λ r. ⌜ Wk.asBounding r ≡ Wk.boundedBy header (P.loads plan) (P.firstOver (Hd.planesOf header) (P.loads plan)) ⌝ }
+    ensures { λ r. ⌜ B.asBounding r ≡ B.boundedBy header (P.loads plan) (P.firstOver (Hd.planesOf header) (P.loads plan)) ⌝ }
 {
     let counts = header.planes;
     let loaded = plan.planes;
@@ -54,7 +54,7 @@ fn bounded(header: Header, plan: Plan) -> Bounded
 
 // The figure of a plan of any header; refused where opening gives no such header.
 pub fn error_bound(header: Header, plan: Plan) -> Bounded
-    ensures { λ r. ⌜ Wk.asBounding r ≡ W.boundOf header plan ⌝ }
+    ensures { λ r. ⌜ B.asBounding r ≡ W.boundOf header plan ⌝ }
 {
     if !header::is_well_formed(header) {
         return Bounded {
@@ -67,7 +67,7 @@ pub fn error_bound(header: Header, plan: Plan) -> Bounded
 
 // The figure of a plan of a card, truncated or whole.
 pub fn figure(bytes: &[u8], plan: Plan) -> Bounded
-    ensures { λ r. ⌜ Wk.asBounding r ≡ Wk.bounding (now (bytes .entry)) plan ⌝ }
+    ensures { λ r. ⌜ B.asBounding r ≡ B.bounding (now (bytes .entry)) plan ⌝ }
 {
     let opened = header::open(bytes);
     let refusal = opened.refusal;

@@ -35,7 +35,7 @@ pub const MOST_CELLS: usize = MOST_PLACES as usize * MOST_PLACE_CELLS;
 // Room for any header's text.
 pub const MOST_TEXT: usize = 512;
 
-// Why a call is refused; `details_of` gives their numbers.
+// Why a call is refused; `details_of` gives the number and the details.
 pub enum Refusal {
     Accepted,
     BadSize,

@@ -91,9 +91,9 @@ module _ (h : Header) where
         places-on (t / K) (slotPlace h t) (omega arith) (slotLayer h t) (omega arith) ∙ ap (total slotCells) same
 
     -- ---- nowhere more than a card has
-    cells-within : (k p : ℕ) → cellsBefore h k p ≤ cellsOf (h .shape) (h .planes)
+    cells-before : (k p : ℕ) → cellsBefore h k p ≤ cellsOf (h .shape) (h .planes)
     unfolding cellsBefore cellsOf
-    cells-within k p = total-le _ _ K (λ j _. mul-le-mul-left (planeCells (h .shape) j) (let e : planesBefore (h .planes) k p j ≤ planesOf h j = omega arith in e))
+    cells-before k p = total-le _ _ K (λ j _. mul-le-mul-left (planeCells (h .shape) j) (let e : planesBefore (h .planes) k p j ≤ planesOf h j = omega arith in e))
 
     pub cells-few : accepted (h .shape) ≡ true → (k p : ℕ) → cellsBefore h k p ≤ cellsMost
-    cells-few ok k p = omega (arith, cells-within k p, cells-most (h .shape) ok (h .planes) few)
+    cells-few ok k p = omega (arith, cells-before k p, cells-most (h .shape) ok (h .planes) few)
