@@ -2,7 +2,7 @@
  *
  * Every function returns the refusal's number, 0 where the call is accepted. A slice is a pointer to so many elements, then their number; the pointer
  * has to be valid for them (and not null, even of none), and slices that a call writes to must not overlap others. Coefficients and values have rows x cols elements each, or the call
- * is refused (3). A refused call leaves the caller's coefficients, values and output as they were. answer is the call's report, which a refused call
+ * is refused (3). A refused call leaves the caller's coefficients, values, output and page as they were. answer is the call's report, which a refused call
  * fills too, except where answer or plan has a wrong length: then nothing at all is written.
  *
  * answer has 24 numbers: [0] the refusal's number, [1] and [2] its details, [3] the card's length (write) or the plan's cells (planning),
@@ -12,7 +12,7 @@
  * curve is 0 for linear and 1 for cubic; any other number is refusal 2. plan has 13 numbers: the planes loaded from the top of each layer, 0 past
  * the last. Refusals: 1 a size, 2 levels, curve or step, 3 a slice's length, 4 a sample out of range (row, column), 5 the header is cut, 6 a wrong
  * line (which), 7 bytes follow the last cell, 8 a plane that cannot be (layer), 9 a plan that asks too much (place; in refine also the layer), 10 a limit below the
- * step, 11 a coefficient out of range.
+ * step, 11 a coefficient out of range, 12 a page too short.
  */
 #ifndef TRACE_CARD_H
 #define TRACE_CARD_H
@@ -25,11 +25,12 @@
 extern "C" {
 #endif
 
-/* The lengths of answer and plan, the most points of a sheet, and the most bytes of a card. */
+/* The lengths of answer and plan, the most points of a sheet, the most bytes of a card, and the bytes of a roll's line. */
 #define TRACE_CARD_ANSWER_LENGTH 24
 #define TRACE_CARD_PLAN_LENGTH 13
 #define TRACE_CARD_MOST_POINTS 8192
 #define TRACE_CARD_MOST_BYTES 32768
+#define TRACE_CARD_LINE_BYTES 25
 
 /* The numbers of an answer, in their order, with names. */
 struct trace_card_answer {
@@ -67,6 +68,12 @@ uint64_t trace_card_read(const uint8_t *card, size_t card_length, const uint64_t
 /* Reads a card, cut or whole, with all the planes that are there. */
 uint64_t trace_card_show(const uint8_t *card, size_t card_length, int32_t *coefficients, size_t coefficients_length, int64_t *values,
     size_t values_length, uint64_t *answer, size_t answer_length);
+
+/* Shows a card as trace_card_show does, and prints the figure and the values in lines of 24 characters, each with byte 10 behind it, at the front
+ * of page, which has room for 25 x (rows x cols + 1) bytes or more, or the call is refused (12). The bytes behind the last line stay as they were. The first
+ * line is the figure; the others, in row order, are row, column and value in 4, 4 and 16 places, right-aligned. */
+uint64_t trace_card_roll(const uint8_t *card, size_t card_length, int32_t *coefficients, size_t coefficients_length, int64_t *values,
+    size_t values_length, uint8_t *page, size_t page_length, uint64_t *answer, size_t answer_length);
 
 /* Adds the next plane of a layer to a reading with a plan. */
 uint64_t trace_card_refine(const uint8_t *card, size_t card_length, const uint64_t *plan, size_t plan_length, uint64_t layer,

@@ -1,11 +1,14 @@
-//! Write, show, refine and both plannings beside the same calls in Rust (`fast`), in one run: the best of many, in
-//! microseconds, and the ratio. It stops where the two give different results.
+//! Write, show, roll, refine and both plannings beside the same calls in Rust (`fast`), in one run: the best of many, in
+//! microseconds, and the ratio. It stops where the two give different results. The roll stands beside Rust's own
+//! formatting too.
 //!
 //! `cargo bench --offline`, after `rt staticlib trace_card`.
 
+use std::io::Write;
 use std::time::Instant;
 use trace_card_tests::boundary::{self, ANSWER, PLAN};
 use trace_card_tests::fast;
+use trace_card_tests::model::roll::page_bytes;
 use trace_card_tests::model::{Curve, Planned, Reached};
 use trace_card_tests::random::sheets::{sheet, Kind};
 use trace_card_tests::random::Random;
@@ -46,6 +49,7 @@ struct Slices {
     coefficients: Vec<i32>,
     values: Vec<i64>,
     output: Vec<u8>,
+    page: Vec<u8>,
     answer: [u64; ANSWER],
 }
 
@@ -54,6 +58,7 @@ fn slices(points: usize) -> Slices {
         coefficients: vec![0; points],
         values: vec![0; points],
         output: vec![0; 32_768],
+        page: vec![0; page_bytes(points)],
         answer: [0; ANSWER],
     }
 }
@@ -91,6 +96,19 @@ fn rust_write(setting: &Setting, s: &mut Slices) {
     s.answer[3] = length.expect("an accepted sheet");
 }
 
+/// The roll by Rust's own formatting.
+fn format_roll(card: &[u8], cols: usize, s: &mut Slices) {
+    let shown = fast::show(card, &mut s.coefficients, &mut s.values).expect("a right card");
+    let mut page = &mut s.page[..];
+    writeln!(page, "{:>24}", shown.figure).expect("room for a line");
+    for (row, values) in s.values.chunks_exact(cols).enumerate() {
+        for (col, value) in values.iter().enumerate() {
+            writeln!(page, "{row:>4}{col:>4}{value:>16}").expect("room for a line");
+        }
+    }
+    reached(&mut s.answer, shown);
+}
+
 fn reached(answer: &mut [u64; ANSWER], reached: Reached) {
     *answer = [0; ANSWER];
     answer[4] = reached.figure;
@@ -110,6 +128,7 @@ fn same(ours: &Slices, theirs: &Slices) {
     assert_eq!(ours.coefficients, theirs.coefficients);
     assert_eq!(ours.values, theirs.values);
     assert_eq!(ours.output, theirs.output);
+    assert_eq!(ours.page, theirs.page);
 }
 
 fn run(setting: &Setting) {
@@ -199,6 +218,29 @@ fn run(setting: &Setting) {
     rust(&mut theirs);
     same(&ours, &theirs);
     compare("plan by cells", || proved(&mut ours), || rust(&mut theirs));
+
+    let proved = |s: &mut Slices| {
+        let (q, v, page) = (&mut s.coefficients, &mut s.values, &mut s.page);
+        assert_eq!(boundary::roll(&card, q, v, page, &mut s.answer), 0);
+    };
+    let rust = |s: &mut Slices| {
+        let (q, v, page) = (&mut s.coefficients, &mut s.values, &mut s.page);
+        let rolled = fast::roll(&card, q, v, page).expect("a right card");
+        reached(&mut s.answer, rolled);
+    };
+    let formatted = |s: &mut Slices| format_roll(&card, setting.cols as usize, s);
+    proved(&mut ours);
+    rust(&mut theirs);
+    same(&ours, &theirs);
+    compare("roll", || proved(&mut ours), || rust(&mut theirs));
+    theirs.page.fill(0);
+    formatted(&mut theirs);
+    same(&ours, &theirs);
+    compare(
+        "roll, writeln!",
+        || proved(&mut ours),
+        || formatted(&mut theirs),
+    );
 }
 
 /// The cells that a card's header names.

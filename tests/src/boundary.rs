@@ -46,6 +46,18 @@ mod c {
             answer: *mut u64,
             answer_length: usize,
         ) -> u64;
+        pub fn trace_card_roll(
+            card: *const u8,
+            card_length: usize,
+            coefficients: *mut i32,
+            coefficients_length: usize,
+            values: *mut i64,
+            values_length: usize,
+            page: *mut u8,
+            page_length: usize,
+            answer: *mut u64,
+            answer_length: usize,
+        ) -> u64;
         pub fn trace_card_refine(
             card: *const u8,
             card_length: usize,
@@ -153,6 +165,29 @@ pub fn show(card: &[u8], coefficients: &mut [i32], values: &mut [i64], answer: &
             coefficients.len(),
             values.as_mut_ptr(),
             values.len(),
+            answer.as_mut_ptr(),
+            answer.len(),
+        )
+    }
+}
+
+pub fn roll(
+    card: &[u8],
+    coefficients: &mut [i32],
+    values: &mut [i64],
+    page: &mut [u8],
+    answer: &mut [u64],
+) -> u64 {
+    unsafe {
+        c::trace_card_roll(
+            card.as_ptr(),
+            card.len(),
+            coefficients.as_mut_ptr(),
+            coefficients.len(),
+            values.as_mut_ptr(),
+            values.len(),
+            page.as_mut_ptr(),
+            page.len(),
             answer.as_mut_ptr(),
             answer.len(),
         )

@@ -7,7 +7,7 @@ use common::{bench, card_of, header_lines, highest_first, plan, refusal};
 use trace_card_tests::model::digits::{digits_of, weight};
 use trace_card_tests::model::figure::{carry, loss};
 use trace_card_tests::model::predict::cubic;
-use trace_card_tests::model::program::shown;
+use trace_card_tests::model::program::{shown, trace};
 use trace_card_tests::model::{
     figure, open, plan_by_cells, plan_by_limit, read, refine, show, write, Curve, Reached, Refusal,
 };
@@ -185,13 +185,19 @@ fn sizes_steps_and_samples_at_their_ends() {
 }
 
 #[test]
-fn the_program_prints() {
+fn the_programs_print() {
     let card = bench::card();
     assert_eq!(
         shown(&card[..160]),
         "rows=1\ncols=5\nloaded=3,0,0\nfigure=10\nrow=12,12,12,24,36\n"
     );
     assert_eq!(shown(&card[..63]), "refused=5\n");
+    for (length, text, status) in [(160, bench::ROLL, 0), (63, "refused=5\n", 1)] {
+        assert_eq!(trace(&["roll"], &card[..length]), (text.into(), status));
+    }
+    assert_eq!(trace(&["show"], &card[..63]), ("refused=5\n".into(), 1));
+    assert_eq!(trace(&["show"], &card), (shown(&card), 0));
+    assert_eq!(trace(&["show", "roll"], &card), (String::new(), 2));
     // A value below 0 has its sign: -1 is 11 in digits; and each row has its line.
     let two_rows = card_of(&header_lines((2, 1), 0, "linear", 0, &[2], 2), &[2, 3]);
     assert_eq!(

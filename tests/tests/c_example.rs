@@ -10,6 +10,7 @@ use std::path::{Path, PathBuf};
 use std::process::Command;
 use std::sync::OnceLock;
 use trace_card_tests::boundary::{ANSWER, PLAN};
+use trace_card_tests::model::roll::LINE_BYTES;
 use trace_card_tests::model::sheet::MOST_POINTS;
 use trace_card_tests::model::write::OUTPUT_BYTES;
 use trace_card_tests::model::{open, show, Refusal};
@@ -262,11 +263,41 @@ static_assert(TRACE_CARD_PLAN_LENGTH == {PLAN}, "a plan");
 static_assert(5 + TRACE_CARD_PLAN_LENGTH <= {ANSWER}, "a plan in an answer");
 static_assert(TRACE_CARD_MOST_POINTS == {MOST_POINTS}, "a sheet");
 static_assert(TRACE_CARD_MOST_BYTES == {OUTPUT_BYTES}, "a card");
+static_assert(TRACE_CARD_LINE_BYTES == {LINE_BYTES}, "a line");
 "#
     );
     for standard in ["c11", "c++11"] {
         compile("names", standard, &unit);
     }
+}
+
+/// A roll from C, on a page of the length that the header says; one byte less is refused.
+#[test]
+fn a_roll_from_c() {
+    let unit = r#"#include "trace_card.h"
+#include <stdio.h>
+static uint8_t card[TRACE_CARD_MOST_BYTES];
+int main(void) {
+    int32_t coefficients[5];
+    int64_t values[5];
+    uint8_t page[TRACE_CARD_LINE_BYTES * (5 + 1)];
+    uint64_t answer[TRACE_CARD_ANSWER_LENGTH];
+    size_t length = fread(card, 1, sizeof card, stdin);
+    uint64_t refusal = trace_card_roll(card, length, coefficients, 5, values, 5, page, sizeof page, answer, TRACE_CARD_ANSWER_LENGTH);
+    if (refusal != 0 || trace_card_roll(card, length, coefficients, 5, values, 5, page, sizeof page - 1, answer, TRACE_CARD_ANSWER_LENGTH) != 12)
+        return 1;
+    return fwrite(page, 1, sizeof page, stdout) == sizeof page ? 0 : 1;
+}
+"#;
+    let (source, program) = (temporary("roll.c"), temporary("roll"));
+    std::fs::write(&source, unit).unwrap();
+    let command = "cc -std=c11 -Iinclude -Ltarget/staticlib";
+    let library = Path::new("-ltrace_card");
+    assert!(compiled(command, &program, &[&source, library]));
+    let card = std::fs::File::open(file("examples/bench-160.card")).unwrap();
+    let output = Command::new(&program).stdin(card).output().unwrap();
+    assert!(output.status.success());
+    assert_eq!(String::from_utf8(output.stdout).unwrap(), bench::ROLL);
 }
 
 /// The section's command and what it says of a card, and its snippet, which C of 1999 takes too.

@@ -14,9 +14,13 @@ use trace_card_tests::model::figure::{carry, loss};
 use trace_card_tests::model::header::print;
 use trace_card_tests::model::planes::{card_order, cells_of_plane, CELL_BYTES};
 use trace_card_tests::model::predict::{cubic, predict};
+use trace_card_tests::model::program::trace;
 use trace_card_tests::model::refusal::{
     BAD_PLANE, BYTES_AFTER, COEFFICIENT, HEADER_CUT, HEADER_LINE, LENGTHS, LEVELS_OR_STEP, LIMIT,
-    PLAN, SAMPLE_RANGE, SHEET_SIZE,
+    PAGE, PLAN, SAMPLE_RANGE, SHEET_SIZE,
+};
+use trace_card_tests::model::roll::{
+    page_bytes, printed, COLUMN_PLACES, LINE_BYTES, LINE_PLACES, ROW_PLACES, VALUE_PLACES,
 };
 use trace_card_tests::model::sheet::{
     Layer, Point, Shape, LARGEST_SAMPLE, MOST_LEVELS, MOST_POINTS,
@@ -24,8 +28,8 @@ use trace_card_tests::model::sheet::{
 use trace_card_tests::model::steps::{coefficient, rebuilt, width, LARGEST_STEP};
 use trace_card_tests::model::write::OUTPUT_BYTES;
 use trace_card_tests::model::{
-    figure, open, plan_by_cells, plan_by_limit, show, write, Curve, Opened, Plan, Planned, Reached,
-    Refusal, MAX_LAYERS,
+    figure, open, plan_by_cells, plan_by_limit, roll, show, write, Curve, Opened, Plan, Planned,
+    Reached, Refusal, MAX_LAYERS,
 };
 use trace_card_tests::random::cases::{Case, Written};
 use trace_card_tests::random::Random;
@@ -236,6 +240,8 @@ fn the_refusals() {
         format!("{PLAN}: a layer is asked for more planes than are whole,"),
         format!("{BAD_PLANE}: a plane that the plan loads has a spare bit set,"),
         format!("so {PLAN} never applies to it."),
+        format!("**Rolling.** All of showing's; then {PAGE}: the page is shorter"),
+        format!("shorter than {LINE_BYTES} × (R × C + 1) bytes."),
         format!("**Refining.** Opening's; {LENGTHS} as in reading; {PLAN}: the plan,"),
         format!("{COEFFICIENT}: a coefficient handed in is outside the range of {MOST_DIGITS}"),
         format!("{BAD_PLANE}: the new plane,"),
@@ -257,6 +263,76 @@ fn plans_and_answers() {
         format!("0 linear and 1 cubic; another is refusal {LEVELS_OR_STEP}."),
         format!("Where `answer` has not {ANSWER} numbers, or a plan"),
         format!("handed in not {MAX_LAYERS}, the function returns {LENGTHS} and writes nothing,"),
+    ] {
+        says(&part, &words);
+    }
+}
+
+#[test]
+fn the_roll() {
+    for (rows, cols) in [(1, 1), (1, MOST_POINTS), (MOST_POINTS, 1), (64, 128)] {
+        let levels = 0;
+        let shape = Shape { rows, cols, levels };
+        let text = printed(shape, u64::MAX, &vec![0; shape.count()]);
+        assert_eq!(text.len() as u64, LINE_BYTES as u64 * (rows * cols + 1));
+        assert!(text.lines().all(|line| line.len() == LINE_PLACES));
+    }
+    assert_eq!(ROW_PLACES + COLUMN_PLACES + VALUE_PLACES, LINE_PLACES);
+    let part = section("12. The calls");
+    for words in [
+        format!("a printer of {LINE_PLACES} characters a line."),
+        format!("The first line has the figure, right-aligned in {LINE_PLACES} places."),
+        format!("its row in {ROW_PLACES} places, its column in {COLUMN_PLACES} and the"),
+        format!("the value in {VALUE_PLACES}, each right-aligned."),
+        "Byte 10 stands behind every line.".to_string(),
+        format!("So the lines take {LINE_BYTES} × (R × C + 1) bytes:"),
+    ] {
+        says(&part, &words);
+    }
+    let words = format!("each line is exactly {LINE_PLACES} characters and byte 10,");
+    says(&section("14. The three demands"), &words);
+}
+
+/// What a value can come to: each layer carries what stands before it, as the figure does, and adds
+/// a coefficient times the width.
+#[test]
+fn the_places_of_the_roll_are_enough() {
+    let largest = GREATEST_COEFFICIENT.max(-LEAST_COEFFICIENT) as u64;
+    let own = largest * width(LARGEST_STEP);
+    let most = (0..MAX_LAYERS).fold(0, |before, _| carry(Curve::Cubic, before) + own);
+    let digits = VALUE_PLACES - 1;
+    assert!(most < 10_u64.pow(digits as u32), "{most}");
+    // The last row of a single column, and the last column of a single row.
+    let last = (MOST_POINTS - 1).to_string();
+    assert_eq!([ROW_PLACES, COLUMN_PLACES], [last.len(); 2]);
+    let words = format!(
+        "no value of any card that reading accepts has more than {VALUE_PLACES} characters with \
+         its sign, since coefficients of {MOST_DIGITS} digits, the largest width and {MAX_LAYERS} \
+         layers cannot make one of more than {digits} digits; no row or column has more than \
+         {ROW_PLACES}, and the figure, a 64-bit number, no more than {}.",
+        u64::MAX.to_string().len()
+    );
+    says(&section("12. The calls"), &words);
+}
+
+/// What the programs end with.
+#[test]
+fn the_program_trace() {
+    let card = bench::card();
+    let ends = |words: &[&str], card: &[u8]| trace(words, card).1;
+    let [shown, rolled] = ["show", "roll"].map(|word| ends(&[word], &card));
+    let refused = ends(&["roll"], &card[..63]);
+    let listed = ends(&[], &card);
+    assert_eq!((rolled, refused), (shown, ends(&["show"], &card[..63])));
+    let part = section("12. The calls");
+    for words in [
+        "`trace show` prints what `show` prints of it; `trace roll` prints the roll's lines."
+            .to_string(),
+        format!("and the program ends with {refused}; otherwise it ends with {rolled}."),
+        format!(
+            "printed on standard error, nothing on standard output, and the program ends with \
+             {listed}."
+        ),
     ] {
         says(&part, &words);
     }
@@ -494,6 +570,23 @@ fn the_bench_card_is_pulled() {
         none.figure,
         bench.pulled(63).unwrap_err().number,
     ));
+}
+
+#[test]
+fn the_bench_card_is_rolled() {
+    let bench = Example::bench();
+    let count = bench.case.count();
+    let mut page = vec![0; page_bytes(count)];
+    let (mut coefficients, mut values) = (vec![0; count], vec![0; count]);
+    let card = &bench.written.card[..160];
+    roll(card, &mut coefficients, &mut values, &mut page).unwrap();
+    let page = String::from_utf8(page).unwrap();
+    assert_eq!(page.lines().count(), 6);
+    bench.says(&format!(
+        "Rolled, those 160 bytes make six lines, {} bytes:",
+        page.len()
+    ));
+    shows(&bench.part, &page);
 }
 
 #[test]

@@ -1,9 +1,40 @@
 //! The calls written for speed give what the model gives, so that the benchmark compares like with like.
 
+mod common;
+
+use common::card_with;
+use common::extremes::Sheet;
 use trace_card_tests::fast;
-use trace_card_tests::model::{self, open};
+use trace_card_tests::model::roll::page_bytes;
+use trace_card_tests::model::{self, open, Reached, Refusal};
 use trace_card_tests::random::cases::{Case, LARGE_SIZES};
 use trace_card_tests::random::Random;
+
+type Roll = fn(&[u8], &mut [i32], &mut [i64], &mut [u8]) -> Result<Reached, Refusal>;
+
+/// The roll of a card, on a page that is long enough or about as long, and with all else it may be
+/// refused for now and then.
+fn check_roll(random: &mut Random, card: &[u8], points: usize) {
+    let needed = page_bytes(points) as i64;
+    let page = match random.below(4) {
+        0 => needed + random.between(-60, 60),
+        1 => needed + random.between(-1, 1),
+        _ => needed,
+    };
+    let mut card = card.to_vec();
+    if random.once_in(6) {
+        let at = random.below(card.len() as u64) as usize;
+        card[at] ^= 1 << random.below(8);
+    }
+    let points = points + usize::from(random.once_in(20));
+    let left = |roll: Roll| {
+        let (mut coefficients, mut values) = (vec![5; points], vec![5; points]);
+        let mut page = vec![0xA7; page.max(0) as usize];
+        let reached = roll(&card, &mut coefficients, &mut values, &mut page);
+        (reached, coefficients, values, page)
+    };
+    assert_eq!(left(fast::roll), left(model::roll));
+}
 
 fn check(random: &mut Random, case: &Case) {
     let n = case.count();
@@ -36,6 +67,8 @@ fn check(random: &mut Random, case: &Case) {
     assert_eq!(shown, model::show(cut, &mut theirs_q, &mut theirs_v));
     assert_eq!((&coefficients, &values), (&theirs_q, &theirs_v));
 
+    check_roll(random, cut, n);
+
     let plan = shown.unwrap().plan;
     for layer in 0..=opened.planes.len() as u64 {
         let (mut q, mut v) = (coefficients.clone(), values.clone());
@@ -59,6 +92,29 @@ fn check(random: &mut Random, case: &Case) {
         fast::plan_by_cells(cut, cells),
         model::plan_by_cells(cut, cells)
     );
+}
+
+/// Values of every length, with both signs, up to the longest there are.
+#[test]
+fn rolls_of_made_up_cards() {
+    let mut random = Random::new(562);
+    for digits in 0..=22 {
+        for step in [0, 1, 4, 49, 65_535] {
+            for levels in [0, 3, 6] {
+                let coefficient = |_| random.between(-(1 << digits), 1 << digits);
+                let coefficients: Vec<i32> = (0..20 * 37)
+                    .map(coefficient)
+                    .map(|q| q.max(-2_796_202) as i32)
+                    .collect();
+                let card = card_with((20, 37), levels, "cubic", step, &coefficients);
+                check_roll(&mut random, &card, 20 * 37);
+            }
+        }
+    }
+    let sheet = Sheet::new((64, 128), 6);
+    for largest in [true, false] {
+        check_roll(&mut random, &sheet.extreme(largest).card, 64 * 128);
+    }
 }
 
 #[test]

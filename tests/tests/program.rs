@@ -1,5 +1,6 @@
-//! The program `show`, as `rt check` builds it, against the model: what it prints of any input, and
-//! of files by name. Then the kept run of the program, and the example cards, against the model.
+//! The programs `show`, as `rt check` builds it, and `trace`, as `programs/build` does, against the model: what they print of
+//! any input, and `show` of files by name. Then the kept run of `show`, and the examples, against the
+//! model.
 
 mod common;
 
@@ -8,24 +9,33 @@ use common::files::{bytes, file, text};
 use std::io::Write;
 use std::path::Path;
 use std::process::{Command, Stdio};
-use trace_card_tests::model::{open, program::shown, Curve};
+use trace_card_tests::model::program::{shown, trace};
+use trace_card_tests::model::{open, Curve};
 use trace_card_tests::random::cases::{Case, LARGE_SIZES};
 use trace_card_tests::random::sheets::Kind;
 use trace_card_tests::random::Random;
 
-/// A run of the program in this folder, with these arguments and with these bytes on its standard
-/// input: what it prints, and what it says on standard error.
-fn run(folder: &Path, names: &[&str], input: &[u8]) -> (String, String) {
-    let program = file("target/bin/show");
+/// A run of a program in this folder, with these arguments and with these bytes on its standard
+/// input: what it prints, what it says on standard error, and what it ends with.
+fn run_program(
+    name: &str,
+    folder: &Path,
+    arguments: &[&str],
+    input: &[u8],
+) -> (String, String, i32) {
+    let program = file("target/bin").join(name);
     let mut child = Command::new(&program)
-        .args(names)
+        .args(arguments)
         .current_dir(folder)
         .stdin(Stdio::piped())
         .stdout(Stdio::piped())
         .stderr(Stdio::piped())
         .spawn()
         .unwrap_or_else(|error| {
-            panic!("{}: {error}; run `rt check show` first", program.display())
+            panic!(
+                "{}: {error}; run `rt check show` and `programs/build` first",
+                program.display()
+            )
         });
     let mut stdin = child.stdin.take().unwrap();
     let input = input.to_vec();
@@ -33,13 +43,32 @@ fn run(folder: &Path, names: &[&str], input: &[u8]) -> (String, String) {
     let writer = std::thread::spawn(move || drop(stdin.write_all(&input)));
     let output = child.wait_with_output().unwrap();
     writer.join().unwrap();
-    assert!(output.status.success());
     let text = |bytes| String::from_utf8(bytes).unwrap();
-    (text(output.stdout), text(output.stderr))
+    let status = output.status.code().expect("a program that ends");
+    (text(output.stdout), text(output.stderr), status)
 }
 
+/// A run of `show`, which ends with 0 in every case.
+fn run(folder: &Path, names: &[&str], input: &[u8]) -> (String, String) {
+    let (printed, said, status) = run_program("show", folder, names, input);
+    assert_eq!(status, 0);
+    (printed, said)
+}
+
+/// The words of `trace`.
+const WORDS: [&str; 2] = ["show", "roll"];
+
+/// `show`, and `trace` with each of its words, on the same input.
 fn check(input: &[u8]) {
     assert_eq!(run(&file("."), &[], input), (shown(input), String::new()));
+    for word in WORDS {
+        let (printed, status) = trace(&[word], input);
+        assert_eq!(
+            run_program("trace", &file("."), &[word], input),
+            (printed, String::new(), status),
+            "trace {word}"
+        );
+    }
 }
 
 #[test]
@@ -61,7 +90,7 @@ fn small_cards_whole_cut_and_damaged() {
     }
 }
 
-/// Cards up to the longest there are, which fill most of the program's buffer.
+/// Cards up to the longest there are, which fill most of the programs' buffer.
 #[test]
 fn the_largest_cards() {
     let mut random = Random::new(582);
@@ -78,7 +107,7 @@ fn the_largest_cards() {
 }
 
 /// Input far longer than any card: the answer is that of all of it, wherever its lines end. The
-/// program's buffer has 40,000 bytes.
+/// programs' buffer has 40,000 bytes.
 #[test]
 fn input_of_any_length() {
     let mut random = Random::new(583);
@@ -154,6 +183,38 @@ fn cards_by_name() {
     );
 }
 
+/// No word, one that is none, or more than one: the words are listed on standard error alone, and
+/// whatever card is there makes no difference.
+#[test]
+fn words_that_trace_does_not_take() {
+    let card = bench::card();
+    let words: [&[&str]; 14] = [
+        &[],
+        &[""],
+        &["-"],
+        &["write"],
+        &["Roll"],
+        &["rol"],
+        &["rolls"],
+        &["show "],
+        &["--help"],
+        &["show", "roll"],
+        &["roll", "roll"],
+        &["show", ""],
+        &["roll", "examples/bench.card"],
+        &["examples/bench.card", "show"],
+    ];
+    for words in words {
+        for input in [&card[..], &card[..63], b""] {
+            assert_eq!(trace(words, input), (String::new(), 2));
+            let (printed, said, status) = run_program("trace", &file("."), words, input);
+            assert_eq!((printed.as_str(), status), ("", 2), "{words:?}");
+            let listed: Vec<&str> = said.split(|c: char| !c.is_alphanumeric()).collect();
+            assert!(WORDS.iter().all(|word| listed.contains(word)), "{said}");
+        }
+    }
+}
+
 /// `rt` holds the run of `show` to its file `stdout`. That file is, for each card that `args` names,
 /// in order, what the model shows of it, its name before it; nothing else.
 #[test]
@@ -198,9 +259,11 @@ fn the_example_cards() {
     let card = bench::card();
     assert_eq!(bytes("examples/bench.card"), card);
     assert_eq!(bytes("examples/bench-160.card"), card[..160]);
+    let (page, _) = trace(&["roll"], &card[..160]);
+    assert_eq!(text("examples/bench-160.roll"), page);
 }
 
-/// README has the whole text of one example card, and the first six lines of another's.
+/// README has the whole text of one example card and of its roll, and the first six lines of another's.
 #[test]
 fn the_texts_in_the_readme() {
     let readme = text("README.md");
@@ -210,5 +273,8 @@ fn the_texts_in_the_readme() {
     let first: String = axles.split_inclusive('\n').take(6).collect();
     let command = "$ examples/show examples/axles-half.card";
     let block = format!("\n```\n{command}\n{first}..\n```\n");
+    assert!(readme.contains(&block), "{block}");
+    let roll = text("examples/bench-160.roll");
+    let block = format!("\n```\n$ examples/trace roll examples/bench-160.card\n{roll}```\n");
     assert!(readme.contains(&block), "{block}");
 }

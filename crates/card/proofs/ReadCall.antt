@@ -123,6 +123,16 @@ module _ (h : Header) (r : wellFormed h ≡ true) (long : ℕ) (bs : List ℕ) (
           (let within : asked ≡ layersMost = omega (arith, ltb-false asked layersMost t, over-le (loads (wholeOf bs h long)) (loads plan)) in
           finished-is h r plan (plan-within h r long bs plan here within) (coefsRead h long bs (loads plan)) vs (coefs-long h long bs (loads plan)) (good-lengths qs vs h good .1))))
 
+      -- what loading is refused for, reading is
+      pub loaded-refused : loading qs bs h long plan .refused ≡ readOpened qs vs bs h long plan .refused
+      unfolding readOpened firstRefusal loading
+      loaded-refused =
+          by (ltb asked layersMost)
+          (λ t. rw (good, can-load, t))
+          (λ t. by (ltb bad (slots h))
+          (λ u. rw (good, can-load, t, u))
+          (λ u. rw (good, can-load, t, u)))
+
       pub loaded-read : (refusal : Refusal) (q : List ℤ) → asLoading refusal q ≡ loading qs bs h long plan → finished (detailsOf refusal) h plan q vs ≡ readOpened qs vs bs h long plan
       loaded-read refusal q x = ap (λ (l : Loading). finished (l .refused) h plan (l .coefficients) vs) x ∙ finished-read
 

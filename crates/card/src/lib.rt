@@ -5,7 +5,9 @@ mod writing;
 
 use header::Plan;
 use header::Refusal;
+pub use reading::examine;
 pub use reading::read;
+pub use reading::refused;
 pub use reading::show;
 pub use refining::refine;
 pub use writing::write;

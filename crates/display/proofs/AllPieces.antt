@@ -26,7 +26,7 @@ use Rattle.display.specs.declared.Shown.{Shown}
 use Rattle.display.specs.Shown.{loadedText, rowsText, textOf, room, seen, shownOf, valuesOf, shownText}
 use Rattle.display.proofs.Order.{inOrder, order-split, order-same}
 use Rattle.display.specs.Workings.{valuePiece, sheetLines, pieceAt, pieces}
-use Rattle.display.proofs.OpenedSize.{opened-sheet}
+use Rattle.header.proofs.OpenedSize.{opened-sheet}
 use Rattle.display.proofs.Rows.{rows-pieces}
 
 -- ---- the pieces of any answer

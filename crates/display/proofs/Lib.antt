@@ -1,7 +1,6 @@
 mod Behind
-mod Signs
-mod OpenedSize
 mod Seeing
+mod Rolling
 mod Order
 pub mod Rows
 pub mod AllPieces

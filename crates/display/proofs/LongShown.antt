@@ -1,11 +1,11 @@
--- What is answered and printed of an input that is longer than any card: it is never accepted, so it is the number, and the one line, of the refusal that its first bytes tell, and whether a byte 10 follows, which may be looked for part by part.
-use mathlib.Core.Bool.{false, _||_}
-use mathlib.Core.List.{List, _++_}
-use mathlib.Core.Path.{_≡_, ap, _∙_}
+-- What is answered and printed of an input of any length. One that is longer than any card is never accepted, so it is the number, and the one line, of the refusal that its first bytes tell, and whether a byte 10 follows, which may be looked for part by part.
+use mathlib.Core.Bool.{Bool, false, cond, _||_}
+use mathlib.Core.List.{List, [], _++_, append-nil}
+use mathlib.Core.Path.{_≡_, ap, sym, _∙_}
 use Prim.Native.Nat.{ℕ, _<_, _≤_}
 use native.Mathlib.Omega.{arith}
-use borrow.Author.Tests.{ne-eqb}
-use lib.Dec.{eqb}
+use borrow.Author.Tests.{eqb-true, ne-eqb, ltb-true, ltb-false}
+use lib.Dec.{eqb, ltb}
 use lib.ListN.{length, drop, length-append}
 use Rattle.integers.proofs.Bools.{by}
 use Rattle.text.specs.Line.{newline, hasEnd, lineText}
@@ -17,7 +17,7 @@ use Rattle.header.proofs.Opens.{opened-right}
 use Rattle.header.proofs.WellFormed.{right-yes}
 use Rattle.header.proofs.TextLength.{card-fits}
 use Rattle.display.specs.Shown.{textOf, shownOf, shownText}
-use Rattle.display.specs.Workings.{bufferBytes, longNumber}
+use Rattle.display.specs.Workings.{bufferBytes, longNumber, inputNumber}
 use Rattle.display.proofs.AllPieces.{refused-shown}
 use Rattle.display.proofs.LongInput.{long-opening}
 
@@ -39,6 +39,18 @@ module _ (bs rest : List ℕ) (enough : bufferBytes ≤ length bs) where
   pub long-shown : shownText (bs ++ rest) ≡ lineText (ascii "refused=") (longNumber (opening bs .refused .number) (hasEnd rest))
   unfolding shownText textOf
   long-shown = rw (refused-shown (bs ++ rest) not-opened, not-opened) (ap (lineText (ascii "refused=")) (long-opening bs rest enough))
+
+-- ---- an input of any length
+-- what follows counts only where the first bytes end before a line's byte 10
+ends-alike : (number : ℕ) (ends follows : Bool) → (number ≡ 5 → ends ≡ follows) → longNumber number ends ≡ longNumber number follows
+ends-alike number ends follows same = by (eqb number 5) (λ y. rw y (ap (λ (b : Bool). cond b 6 5) (same (eqb-true number 5 y)))) (λ n. rw n)
+
+-- the number answered is that of all of its bytes
+pub input-number : (bs rest : List ℕ) (ends : Bool) → (length bs < bufferBytes → rest ≡ []) → (opening bs .refused .number ≡ 5 → ends ≡ hasEnd rest) → inputNumber bs ends ≡ shownOf (bs ++ rest) .number
+input-number bs rest ends all follows =
+    by (ltb (length bs) bufferBytes)
+    (λ y. rw (y, all (ltb-true (length bs) bufferBytes y), append-nil bs))
+    (λ n. rw n (ends-alike (opening bs .refused .number) ends (hasEnd rest) follows ∙ sym (long-number bs rest (ltb-false (length bs) bufferBytes n))))
 
 -- ---- a byte 10 in one part or in the other
 pub end-append : (a b : List ℕ) → hasEnd (a ++ b) ≡ hasEnd a || hasEnd b

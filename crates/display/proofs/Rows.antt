@@ -9,10 +9,11 @@ use lib.Dec.{eqb}
 use lib.IntN.{ℤ, pos}
 use lib.ListN.{length, getD, take, drop, length-take, length-drop, drop-of-length-le}
 use lib.Seq.{drop-cons, getD-take, getD-drop}
+use Rattle.text.specs.Decimal.{signed}
 use Rattle.text.specs.Line.{newline}
 use Rattle.text.specs.Joined.{comma}
 use Rattle.header.specs.Header.{ascii}
-use Rattle.display.specs.Shown.{signed, valuesText, rowsText}
+use Rattle.display.specs.Shown.{valuesText, rowsText}
 use Rattle.display.proofs.Order.{inOrder, order-split, order-same}
 use Rattle.display.specs.Workings.{rowStart, rowEnd, valuePiece}
 

@@ -15,7 +15,7 @@ use Rattle.header.specs.Opening.{Opening, opening}
 use Rattle.card.specs.declared.Reached.{Reached}
 use Rattle.card.specs.Reading.{Reading, asReading, showing}
 use Rattle.display.specs.Shown.{room, seen, shownOf, valuesOf}
-use Rattle.display.proofs.OpenedSize.{Small, opened-small}
+use Rattle.header.proofs.OpenedSize.{Small, opened-small}
 
 take-replicate : (n m : ℕ) (x : ℤ) → n ≤ m → take n (replicate m x) ≡ replicate n x
 take-replicate zero m x h = refl
@@ -23,17 +23,18 @@ take-replicate (suc n) zero x h = absurd (let z : ⊥ = omega arith in z)
 take-replicate (suc n) (suc m) x h = ap (λ (l : List ℤ). x ∷ l) (take-replicate n m x (omega arith))
 
 module _ (bs : List ℕ) (o : Opened) (e : O.asOpening o ≡ opening bs) where
-  shape-is : o .header .shape ≡ opening bs .header .shape
+  pub shape-is : o .header .shape ≡ opening bs .header .shape
   shape-is = ap (λ (x : Opening). x .header .shape) e
 
   pub sheet-small : Small (o .header .shape)
   sheet-small = rw shape-is (opened-small bs)
 
+  -- a slice of zeros, cut to the sheet
+  pub cut : (l : List ℤ) → l ≡ replicate pointsMost (pos 0) → take (points (o .header .shape)) l ≡ room bs
+  cut l f = ap (take (points (o .header .shape))) f ∙ take-replicate (points (o .header .shape)) pointsMost (pos 0) (sheet-small .1) ∙ ap (λ (s : Shape). replicate (points s) (pos 0)) shape-is
+
   module _ (r : Reached) (qs vs cs ws : List ℤ) (c : cs ≡ replicate pointsMost (pos 0)) (w : ws ≡ replicate pointsMost (pos 0))
       (d : asReading r qs vs ≡ showing (take (points (o .header .shape)) cs) (take (points (o .header .shape)) ws) bs) where
-    cut : (l : List ℤ) → l ≡ replicate pointsMost (pos 0) → take (points (o .header .shape)) l ≡ room bs
-    cut l f = ap (take (points (o .header .shape))) f ∙ take-replicate (points (o .header .shape)) pointsMost (pos 0) (sheet-small .1) ∙ ap (λ (s : Shape). replicate (points s) (pos 0)) shape-is
-
     seen-is : asReading r qs vs ≡ seen bs
     seen-is = d ∙ ap₂ (λ (a b : List ℤ). showing a b bs) (cut cs c) (cut ws w)
 

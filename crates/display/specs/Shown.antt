@@ -1,27 +1,23 @@
--- What the program `show` prints of a card (docs/CARD.md, "The calls", the program).
+-- What the programs print of a card (docs/CARD.md, "The calls", the programs `show` and `trace`).
 use mathlib.Core.Bool.{cond}
 use mathlib.Core.List.{List, [], _∷_, _++_}
 use Prim.Native.Nat.{ℕ, zero, suc, _*_}
 use lib.Dec.{eqb}
-use lib.IntN.{ℤ, pos, negsuc}
+use lib.IntN.{ℤ, pos}
 use lib.ListN.{take, drop, replicate}
 use Rattle.sheet.specs.declared.Shape.{Shape}
 use Rattle.sheet.specs.Sheet.{points, layers}
-use Rattle.text.specs.Decimal.{decimal}
+use Rattle.text.specs.Decimal.{signed}
 use Rattle.text.specs.Line.{newline, lineText}
 use Rattle.text.specs.Joined.{comma, joined}
 use Rattle.header.specs.declared.Plan.{Plan}
 use Rattle.header.specs.Header.{ascii}
 use Rattle.header.specs.Opening.{opening}
 use Rattle.card.specs.Reading.{Reading, showing}
+use Rattle.roll.specs.Page.{pageText}
 use Rattle.display.specs.declared.Shown.{Shown}
 
 -- ---- the lines
--- a number, with a minus sign before a negative one
-unfoldable pub signed : ℤ → List ℕ
-signed (pos n) = decimal n
-signed (negsuc n) = ascii "-" ++ decimal (suc n)
-
 -- the planes loaded: a count for each of the sheet's layers
 unfoldable pub loadedText : Shape → Plan → List ℕ
 loadedText sh plan = ascii "loaded=" ++ joined (take (layers sh) (plan .planes)) ++ newline ∷ []
@@ -68,3 +64,7 @@ valuesOf bs = seen bs .values
 -- what show prints of a card's bytes: the text of both
 unfoldable pub shownText : List ℕ → List ℕ
 shownText bs = textOf (shownOf bs) (valuesOf bs)
+
+-- what `trace roll` prints of them, where they are not refused: the roll's lines
+unfoldable pub rolledText : List ℕ → List ℕ
+rolledText bs = pageText (opening bs .header .shape) (seen bs .figure) (valuesOf bs)

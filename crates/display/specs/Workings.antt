@@ -1,5 +1,5 @@
--- How the text is written, piece by piece, and what is said of an input that is longer than any card. Laws: the pieces in order are the text
--- (`AllPieces.shown-pieces`), and what is said of such an input is what all its bytes show (`LongShown.long-number`, `long-shown`).
+-- How the text is written, piece by piece, and what is said of an input of any length. Laws: the pieces in order are the text (`AllPieces.shown-pieces`),
+-- and what is said of an input is what all its bytes show (`LongShown.input-number`, `long-shown`).
 use mathlib.Core.Bool.{Bool, cond, not, _&&_}
 use mathlib.Core.List.{List, [], _∷_, _++_}
 use Prim.Native.Nat.{ℕ, _+_, _*_, _-_, _%_}
@@ -7,17 +7,20 @@ use lib.Dec.{ltb, eqb}
 use lib.IntN.{ℤ, pos}
 use lib.ListN.{length, getD}
 use lib.Seq.{sets}
-use Rattle.sheet.specs.Limits.{layersMost}
+use Rattle.sheet.specs.Limits.{layersMost, pointsMost}
 use Rattle.text.specs.Text.{padded}
 use Rattle.text.specs.Workings.{charactersMost}
 use Rattle.text.specs.Line.{newline, hasEnd, lineText}
 use Rattle.text.specs.Joined.{comma}
 use Rattle.header.specs.Header.{ascii}
+use Rattle.header.specs.Opening.{opening}
+use Rattle.roll.specs.Page.{linePlaces}
 use Rattle.display.specs.declared.Ahead.{Ahead}
 use Rattle.display.specs.declared.Ahead.the-variants.{End, Nothing, More}
 use Rattle.display.specs.declared.Piece.{Piece}
 use Rattle.display.specs.declared.Shown.{Shown}
-use Rattle.display.specs.Shown.{signed, loadedText}
+use Rattle.text.specs.Decimal.{signed}
+use Rattle.display.specs.Shown.{loadedText, shownOf}
 
 -- ---- a piece: text in a fixed room
 -- room for a key, and for the longest piece, which is the line of planes: a comma or the line's end stands behind each count
@@ -93,3 +96,11 @@ aheadOf bs = cond (hasEnd bs) End (cond (ltb (length bs) chunkBytes) Nothing Mor
 -- end before a line's byte 10 (5) and it follows, the line is too long to be right (6)
 abbrev pub longNumber : ℕ → Bool → ℕ
 longNumber number ends = cond (eqb number 5) (cond ends 6 5) number
+
+-- the number of an input's refusal, 0 where there is none: these are all of its bytes, or as many as were read and what follows them
+abbrev pub inputNumber : List ℕ → Bool → ℕ
+inputNumber bs ends = cond (ltb (length bs) bufferBytes) (shownOf bs .number) (longNumber (opening bs .refused .number) ends)
+
+-- ---- room for the lines of any sheet's roll
+abbrev pub pageMost : ℕ
+pageMost = (linePlaces + 1) * (pointsMost + 1)

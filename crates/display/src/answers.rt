@@ -2,7 +2,7 @@
 ghost use mathlib.Core.Path.{_≡_};
 ghost use Prim.Native.Nat.{_≤_};
 ghost use lib.IntN.{pos};
-ghost use lib.ListN.{replicate, take};
+ghost use lib.ListN.{length, replicate, take};
 ghost use Rattle.sheet.specs.Limits.{pointsMost};
 ghost use Rattle.sheet.specs.Sheet.{points};
 ghost use Rattle.sheet.specs.Workings.Shapes.{pointsIn};
@@ -12,6 +12,7 @@ ghost use Rattle.display.specs.Shown as S;
 ghost use Rattle.display.specs.Workings as W;
 use crate::Ahead;
 use crate::CHUNK;
+use crate::Rolled;
 use crate::Shown;
 
 // What is shown of a card that is all there, with its values at the front of their slice.
@@ -36,7 +37,7 @@ pub(crate) fn shown_of(bytes: &[u8], coefficients: &mut [i32], values: &mut [i64
 }
 
 // The number of the refusal that opening gives, 0 where it gives none.
-pub fn opening_number(bytes: &[u8]) -> u64
+pub(crate) fn opening_number(bytes: &[u8]) -> u64
     ensures { λ r. ⌜ r ≡ O.opening (now (bytes .entry)) .refused .number ⌝ }
 {
     let opened = header::open(bytes);
@@ -53,7 +54,7 @@ fn has_end(bytes: &[u8]) -> bool
 }
 
 // What the bytes of one turn tell of the rest of an input: fewer than were asked for are its last.
-pub fn ahead_of(bytes: &[u8]) -> Ahead
+pub(crate) fn ahead_of(bytes: &[u8]) -> Ahead
     ensures { λ r. ⌜ r ≡ W.aheadOf (now (bytes .entry)) ⌝ }
 {
     if has_end(bytes) {
@@ -73,5 +74,33 @@ pub(crate) fn long_number(number: u64, ends: bool) -> u64
         if ends { 6 } else { 5 }
     } else {
         number
+    }
+}
+
+// The roll of a card that is all there, with its lines at the front of the page.
+pub(crate) fn rolled_of(
+    bytes: &[u8],
+    coefficients: &mut [i32],
+    values: &mut [i64],
+    page: &mut [u8],
+) -> Rolled
+    requires { ⌜ (now coefficients ≡ replicate pointsMost (pos 0)) × (now values ≡ replicate pointsMost (pos 0)) × (length (now page) ≡ W.pageMost) ⌝ }
+    ensures { λ r. ⌜ (r .number ≡ S.shownOf (now (bytes .entry)) .number) × (r .length ≤ W.pageMost) × (r .number ≡ 0 → take (r .length) (now (page .exit)) ≡ S.rolledText (now (bytes .entry))) ⌝ }
+{
+    let opened = header::open(bytes);
+    let header = opened.header;
+    let shape = header.shape;
+    let points = sheet::points(shape);
+    let reached = roll::roll(
+        bytes,
+        &mut coefficients[..points],
+        &mut values[..points],
+        page,
+    );
+    let refusal = reached.refusal;
+    let details = header::details_of(refusal);
+    Rolled {
+        number: details.number,
+        length: roll::page_length(shape),
     }
 }

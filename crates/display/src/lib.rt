@@ -1,16 +1,17 @@
-// What the program show prints: what is to be shown of a card's bytes, its pieces of text, and the printing, which only loops and writes them. Reading
-// a card, and looking through an input that is longer than any card, is left to the program.
+// What the programs print of a card: reading it from a file, what is to be shown of its bytes, the pieces of text, and the printing, which only loops and
+// writes them.
 mod answers;
 mod pieces;
 mod printing;
+mod reading;
 
-pub use answers::ahead_of;
-pub use answers::opening_number;
 use header::Plan;
 pub use pieces::piece_at;
+pub use printing::roll;
 pub use printing::show;
-pub use printing::show_long;
+pub use reading::read;
 use sheet::MOST_LAYERS;
+use sheet::MOST_POINTS;
 use sheet::Shape;
 use text::MOST_CHARACTERS;
 
@@ -33,11 +34,27 @@ pub struct Shown {
     pub figure: u64,
 }
 
+// What is printed of a card as a roll: the number of its refusal, or 0 and how many bytes its lines take.
+pub struct Rolled {
+    pub number: u64,
+    pub length: usize,
+}
+
+// Room for the lines of any sheet.
+pub const MOST_PAGE: usize = roll::LINE_BYTES * (MOST_POINTS + 1);
+
 // How much of an input is read at first. A card has at most 32,768 bytes, so an input that has as many as this is none.
 pub const BUFFER: usize = 40000;
 
 // How much more is looked at in one turn.
 pub const CHUNK: usize = 4096;
+
+// An input: how many of its bytes were read, and whether a byte 10 follows them. That is looked for only where the bytes fill the buffer and end before a
+// line's byte 10; otherwise nothing hangs on it.
+pub struct Input {
+    pub length: usize,
+    pub ends: bool,
+}
 
 // What the bytes of one turn tell of the rest of an input: a byte 10 follows, none does, or more has to be looked at.
 pub enum Ahead {

@@ -2,7 +2,6 @@
 ghost use mathlib.Core.Path.{_≡_};
 ghost use mathlib.Core.List.{[]};
 ghost use Prim.Native.Nat.{_+_, _≤_};
-ghost use lib.IntN.{natAbs};
 ghost use lib.ListN.{length, take};
 ghost use Rattle.sheet.specs.Limits.{layersMost, pointsMost};
 ghost use Rattle.text.specs.Decimal as T;
@@ -50,26 +49,15 @@ fn with_number(piece: Piece, n: u64) -> Piece
     Piece { bytes, length }
 }
 
-// A value without its sign.
-fn magnitude(value: i64) -> u64
-    ensures { λ r. ⌜ r ≡ natAbs value ⌝ }
-{
-    if value < 0 {
-        (-1 - value) as u64 + 1
-    } else {
-        value as u64
-    }
-}
-
 // A piece with a value behind it, a minus before a negative one.
 fn with_value(piece: Piece, value: i64) -> Piece
     requires { ⌜ piece .length + 1 + W.charactersMost ≤ Wk.pieceMost ⌝ }
-    ensures { λ r. ⌜ r ≡ Wk.extended piece (S.signed value) ⌝ }
+    ensures { λ r. ⌜ r ≡ Wk.extended piece (T.signed value) ⌝ }
 {
     if value < 0 {
-        with_number(with_text(piece, b"-"), magnitude(value))
+        with_number(with_text(piece, b"-"), integers::magnitude(value))
     } else {
-        with_number(piece, magnitude(value))
+        with_number(piece, integers::magnitude(value))
     }
 }
 

@@ -1,5 +1,5 @@
-// Printing what a card shows. That just the pieces are written, in their order, is one loop to be read (`print`), since no contract can speak of what
-// was written to a file; the pieces themselves are promised, and so are the answers.
+// Printing what a card shows. That just the pieces are written, in their order, is one loop to be read (`print`), and so is the one write of a roll
+// (`roll_in`), since no contract can speak of what was written to a file; the pieces and the page are promised, and so are the answers.
 ghost use mathlib.Core.Path.{_≡_};
 ghost use Prim.Native.Nat.{_≤_};
 ghost use lib.IntN.{pos};
@@ -8,10 +8,13 @@ ghost use Rattle.sheet.specs.Limits.{pointsMost};
 ghost use Rattle.header.specs.Opening as O;
 ghost use Rattle.display.specs.Shown as S;
 ghost use Rattle.display.specs.Workings as W;
+use crate::BUFFER;
+use crate::MOST_PAGE;
 use crate::Piece;
 use crate::Shown;
 use crate::answers::long_number;
 use crate::answers::opening_number;
+use crate::answers::rolled_of;
 use crate::answers::shown_of;
 use crate::pieces::piece_at;
 use crate::pieces::pieces;
@@ -48,21 +51,52 @@ fn show_in(bytes: &[u8], coefficients: &mut [i32], values: &mut [i64]) -> u64
     shown.number
 }
 
-// Prints what a card of these bytes shows, and answers the number of its refusal, 0 where it is shown.
-pub fn show(bytes: &[u8]) -> u64
-    ensures { λ r. ⌜ r ≡ S.shownOf (now (bytes .entry)) .number ⌝ }
-{
-    let mut coefficients = [0i32; MOST_POINTS];
-    let mut values = [0i64; MOST_POINTS];
-    show_in(bytes, &mut coefficients, &mut values)
-}
-
-// The same for an input that is longer than any card: these are its first bytes, `BUFFER` or more, and `ends` says whether a byte 10 follows them. Such
-// an input is refused, so what is printed is one line.
-pub fn show_long(bytes: &[u8], ends: bool) -> u64
+// An input that is longer than any card: these are its first bytes. It is refused, so what is printed is one line.
+fn refuse_long(bytes: &[u8], ends: bool) -> u64
     ensures { λ r. ⌜ r ≡ W.longNumber (O.opening (now (bytes .entry)) .refused .number) ends ⌝ }
 {
     let number = long_number(opening_number(bytes), ends);
     write(refused_line(number, 0));
     number
+}
+
+// Prints what a card shows, and answers the number of its refusal, 0 where it is shown. The bytes are all of an input, or its first `BUFFER` and `ends`
+// says whether a byte 10 follows them.
+pub fn show(bytes: &[u8], ends: bool) -> u64
+    ensures { λ r. ⌜ r ≡ W.inputNumber (now (bytes .entry)) ends ⌝ }
+{
+    if BUFFER <= bytes.len() {
+        return refuse_long(bytes, ends);
+    }
+    let mut coefficients = [0i32; MOST_POINTS];
+    let mut values = [0i64; MOST_POINTS];
+    show_in(bytes, &mut coefficients, &mut values)
+}
+
+// Rolls a card in slices with room for any sheet.
+fn roll_in(bytes: &[u8], coefficients: &mut [i32], values: &mut [i64], page: &mut [u8]) -> u64
+    requires { ⌜ (now coefficients ≡ replicate pointsMost (pos 0)) × (now values ≡ replicate pointsMost (pos 0)) × (length (now page) ≡ W.pageMost) ⌝ }
+    ensures { λ r. ⌜ r ≡ S.shownOf (now (bytes .entry)) .number ⌝ }
+{
+    let rolled = rolled_of(bytes, coefficients, values, page);
+    let length = rolled.length;
+    if rolled.number == 0 {
+        io::write_all(STDOUT_FILENO, &page[..length]);
+    } else {
+        write(refused_line(rolled.number, 0));
+    }
+    rolled.number
+}
+
+// Prints a card's roll, and answers as `show` does.
+pub fn roll(bytes: &[u8], ends: bool) -> u64
+    ensures { λ r. ⌜ r ≡ W.inputNumber (now (bytes .entry)) ends ⌝ }
+{
+    if BUFFER <= bytes.len() {
+        return refuse_long(bytes, ends);
+    }
+    let mut coefficients = [0i32; MOST_POINTS];
+    let mut values = [0i64; MOST_POINTS];
+    let mut page = [0u8; MOST_PAGE];
+    roll_in(bytes, &mut coefficients, &mut values, &mut page)
 }

@@ -1,7 +1,7 @@
 -- The figure of a plan: the step and what stands of the losses. A full plan loses nothing, and the limits bound what stands whatever a plan loads.
 use mathlib.Core.Path.{_≡_}
 use Prim.Native.Nat.{ℕ, _+_, _-_, _*_, _^_, _<_, _≤_}
-use native.Mathlib.Nat.{le-trans, mul-le-mul, zero-mul}
+use native.Mathlib.Nat.{le-refl, le-trans, mul-le-mul, zero-mul}
 use native.Mathlib.Omega.{arith}
 use Rattle.integers.specs.Floor.{ceilDiv}
 use Rattle.digits.specs.Digits.{loss}
@@ -60,3 +60,7 @@ module _ {h : Header} (r : WellFormed h) (plan : ℕ → ℕ) where
   standing-most k l =
       le-trans (standing-limit (h .shape) (h .curve) (ownLoss h plan) lossMost k (λ j i. own-most j (omega (arith, layers-few r))))
       (limit-all lossMost k layersMost (omega (arith, layers-few r)))
+
+  pub figure-small : figureOf h plan ≤ 2 ^ 57
+  unfolding figureOf
+  figure-small = omega (arith, r .step, standing-most (layers (h .shape)) (le-refl (layers (h .shape))), standing-small)

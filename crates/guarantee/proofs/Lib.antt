@@ -5,6 +5,7 @@ mod Cells
 mod Coefficients
 mod Cut
 mod Enough
+mod Fields
 mod Fine
 mod Fits
 mod Near
@@ -20,5 +21,6 @@ pub mod Again
 pub mod Holds
 pub mod Refined
 pub mod Refused
+pub mod Rolls
 pub mod Rows
 pub mod Tables

@@ -28,8 +28,10 @@ use Rattle.loading.specs.InBytes.{firstBad, fine}
 use Rattle.card.specs.Writing.{notWritten, badSizes, badSettings, roomToWrite, afterScan, writing}
 use Rattle.card.specs.Reading.{Reading, notRead, unless, firstRefusal, readOpened, reading, showing}
 use Rattle.card.specs.Refining.{refineOpened, refining}
-use Rattle.trace_card.specs.Boundary.{answerLength, AfterReading, AfterAsking, answerable, isPlan, planOf, readAs, left, asked, unread, writingBy, writeCall, readCall, showCall, refineCall, figureCall, limitCall, cellsCall}
-use Rattle.guarantee.specs.Unchanged.{KeptByWriting, KeptByReading, KeptByWrite, KeptByRead, UnchangedThroughC, Unchanged}
+use Rattle.roll.specs.Page.{pageLength}
+use Rattle.roll.specs.Rolling.{Rolling, notRolled, rolled, rolling}
+use Rattle.trace_card.specs.Boundary.{answerLength, AfterReading, AfterAsking, answerable, isPlan, planOf, readAs, rolledAs, left, printedOn, asked, unread, writingBy, writeCall, readCall, showCall, refineCall, rollCall, figureCall, limitCall, cellsCall}
+use Rattle.guarantee.specs.Unchanged.{KeptByWriting, KeptByReading, KeptByRolling, KeptByWrite, KeptByRead, KeptByRoll, UnchangedThroughC, Unchanged}
 
 -- ---- writing
 module _ (xs : List ℤ) (sh : Shape) (curve : Curve) (e : ℕ) (qs vs : List ℤ) (out : List ℕ) where
@@ -86,6 +88,20 @@ module _ (qs vs : List ℤ) where
       (λ _. not-read _))
       (λ _. not-read _)))
 
+-- ---- rolling
+module _ (qs vs : List ℤ) (page : List ℕ) where
+  not-rolled : (d : Details) → KeptByRolling qs vs page (notRolled qs vs page d)
+  not-rolled d = record { slices = not-read qs vs d; page = λ _. refl }
+
+  rolling-kept : (bs : List ℕ) → KeptByRolling qs vs page (rolling qs vs page bs)
+  unfolding rolling rolled
+  rolling-kept bs =
+      let shown = showing qs vs bs in
+      choice (KeptByRolling qs vs page) (eqb (shown .refused .number) 0)
+      (λ y. choice (KeptByRolling qs vs page) (ltb (length page) (pageLength (opening bs .header .shape))) (λ _. not-rolled _)
+      (λ _. record { slices = showing-kept qs vs bs; page = λ no. absurd (no (eqb-true (shown .refused .number) 0 y)) }))
+      (λ _. not-rolled _)
+
 -- ---- through C: what the call below leaves, or everything where a length is wrong
 module _ (xs : List ℤ) (rows cols levels curve step : ℕ) (qs vs : List ℤ) (out : List ℕ) where
   abbrev sh : Shape
@@ -112,6 +128,13 @@ module _ (qs vs : List ℤ) where
   nothing-read : (answer : List ℕ) → KeptByRead qs vs (unread qs vs answer)
   nothing-read answer = record { coefficients = λ _. refl; values = λ _. refl }
 
+module _ (qs vs : List ℤ) (page : List ℕ) where
+  rolled-as : {r : Rolling} → KeptByRolling qs vs page r → KeptByRoll qs vs page (rolledAs r)
+  rolled-as kept = record { slices = read-as qs vs (kept .slices); page = kept .page }
+
+  nothing-rolled : (answer : List ℕ) → KeptByRoll qs vs page (printedOn 3 answer qs vs page)
+  nothing-rolled answer = record { slices = nothing-read qs vs answer; page = λ _. refl }
+
 wrong-answer : (answer : List ℕ) → (length answer ≡ answerLength → ⊥) → answerable answer ≡ false
 wrong-answer answer wrong = not-yes (answerable answer) (λ y. wrong (eqb-true (length answer) answerLength y))
 
@@ -124,7 +147,7 @@ by-lengths P answer plan good bad =
     (λ _. bad)
 
 through-c : UnchangedThroughC
-unfolding writeCall readCall showCall refineCall figureCall limitCall cellsCall
+unfolding writeCall readCall showCall refineCall rollCall figureCall limitCall cellsCall
 through-c =
     record {
       write = write-kept;
@@ -134,15 +157,18 @@ through-c =
           choice (KeptByRead qs vs) (answerable answer) (λ _. read-as qs vs (showing-kept qs vs card)) (λ _. nothing-read qs vs answer);
       refine = λ qs vs answer card plan layer.
           by-lengths (KeptByRead qs vs) answer plan (λ _. read-as qs vs (refining-kept qs vs card (planOf plan) layer)) (nothing-read qs vs answer);
+      roll = λ qs vs page answer card.
+          choice (KeptByRoll qs vs page) (answerable answer) (λ _. rolled-as qs vs page (rolling-kept qs vs page card)) (λ _. nothing-rolled qs vs page answer);
       unwritten = λ xs rows cols levels curve step qs vs out answer wrong. rw (wrong-answer answer wrong);
       unread = λ qs vs answer card plan wrong. by-lengths (λ (a : AfterReading). a ≡ left 3 answer qs vs) answer plan (λ good. absurd (wrong good)) refl;
       unshown = λ qs vs answer card wrong. rw (wrong-answer answer wrong);
       unrefined = λ qs vs answer card plan layer wrong.
           by-lengths (λ (a : AfterReading). a ≡ left 3 answer qs vs) answer plan (λ good. absurd (wrong good)) refl;
+      unrolled = λ qs vs page answer card wrong. rw (wrong-answer answer wrong);
       unbounded = λ card plan answer wrong. by-lengths (λ (a : AfterAsking). a ≡ asked 3 answer) answer plan (λ good. absurd (wrong good)) refl;
       unplanned-limit = λ card limit answer wrong. rw (wrong-answer answer wrong);
       unplanned-cells = λ card cells answer wrong. rw (wrong-answer answer wrong);
     }
 
 pub unchanged : Unchanged
-unchanged = record { write = writing-kept; read = reading-kept; show = showing-kept; refine = refining-kept; through-c = through-c }
+unchanged = record { write = writing-kept; read = reading-kept; show = showing-kept; refine = refining-kept; roll = rolling-kept; through-c = through-c }

@@ -16,6 +16,9 @@ use Rattle.order.specs.CardOrder.{cellsBefore, isWhole, whole}
 use Rattle.figure.specs.Figure.{figureOf}
 use Rattle.packing.specs.Planes.{allBelow}
 use Rattle.loading.specs.InBytes.{bitAt, clean, hasOne, fineBits, fine, badSlot, firstBad, coefRead, coefsRead}
+use Rattle.text.specs.Decimal.{digitsIn, decimal, signed}
+use Rattle.text.specs.Text.{rightAligned}
+use Rattle.roll.specs.Page.{figureLine, valueLine, valueLines, pageText}
 use Rattle.planner.specs.Planning.{withUpTo, eachUpTo, listsUpTo, plansOf, winsTie, better, bestOf, bestByLimit, bestByCells}
 use Rattle.guarantee.specs.Bench.{card, Bench}
 use Rattle.guarantee.proofs.RowsOpened.{openings}
@@ -26,6 +29,7 @@ unfolding
     coefs written alongside rebuilt valuesBy layerBy tabulate pointBy predictedAt line linear coefficientOf rebuiltFrom floorDiv width
     firstOver firstFrom whole isWhole cellsBefore firstBad badSlot fine fineBits clean hasOne bitAt allBelow coefsRead coefRead value lastIn placeIn
     bestByLimit bestByCells bestOf better winsTie plansOf listsUpTo eachUpTo withUpTo
+    pageText figureLine valueLines valueLine rightAligned signed decimal digitsIn
     figureOf standing carried loss cellsOf total planeCells ceilDiv layerSize count inLayer directions spacing asciiFrom
 bench =
     record {
@@ -33,6 +37,7 @@ bench =
       header = refl;
       long = refl;
       at160 = λ qs vs five. C.shown qs vs five (take 160 card) (openings .at160);
+      roll160 = λ qs vs page five room. C.rolls qs vs five (take 160 card) (openings .at160) refl page room;
       at159 = λ qs vs five. C.shows qs vs five (take 159 card) (openings .at159);
       at64 = λ qs vs five. C.shows qs vs five (take 64 card) (openings .at64);
       at63 = C.cut;

@@ -4,7 +4,7 @@ use mathlib.Core.List.{List}
 use mathlib.Core.Path.{_≡_, refl, ap}
 use Prim.Native.Nat.{ℕ, _≤_}
 use native.Mathlib.Omega.{arith}
-use borrow.Author.Tests.{eq-eqb, le-leb}
+use borrow.Author.Tests.{eq-eqb, le-leb, le-ltb}
 use lib.Dec.{ltb}
 use lib.IntN.{ℤ}
 use lib.ListN.{length, take}
@@ -31,6 +31,8 @@ use Rattle.loading.specs.InBytes.{firstBad}
 use Rattle.card.specs.Reading.{Reading, readWhole, readOpened, showing}
 use Rattle.card.specs.Reading as R
 use Rattle.card.proofs.ReadCall.{lengths-good, checked-none}
+use Rattle.roll.specs.Page.{pageText}
+use Rattle.roll.specs.Rolling.{printed, rolled, rolling}
 use Rattle.planner.specs.Planning.{bestByLimit, bestByCells, found, byLimit, byCells}
 use Rattle.planner.specs.Planning as N
 use Rattle.guarantee.specs.Bench.{shape, samples, coefficients, card, Five}
@@ -74,6 +76,12 @@ module _ (qs vs : List ℤ) where
   pub shows : Five qs vs → (bs : List ℕ) → opening bs ≡ opened
       → (showing qs vs bs .plan ≡ wholeRead bs .plan) × (showing qs vs bs .figure ≡ wholeRead bs .figure)
   shows five bs o = (ap (λ (r : Reading). r .plan) (shown five bs o), ap (λ (r : Reading). r .figure) (shown five bs o))
+
+  -- and rolled, on a page that has room for its six lines
+  pub rolls : Five qs vs → (bs : List ℕ) → opening bs ≡ opened → wholeRead bs .refused .number ≡ 0 → (page : List ℕ) → 150 ≤ length page
+      → rolling qs vs page bs ≡ record { shown = showing qs vs bs; page = printed page (pageText shape (wholeRead bs .figure) (wholeRead bs .values)) }
+  unfolding rolling rolled
+  rolls five bs o fine page room = rw (shown five bs o, fine, o, le-ltb (length page) 150 room)
 
   pub cut : showing qs vs (take 63 card) ≡ R.notRead qs vs (refusal 5 0 0)
   unfolding showing

@@ -20,6 +20,7 @@ use Rattle.card.specs.Reading.{showing}
 use Rattle.card.specs.Reading as R
 use Rattle.planner.specs.Planning.{Planning, byLimit, byCells, cellsIn, figureIn}
 use Rattle.planner.specs.Planning as N
+use Rattle.roll.specs.Rolling.{rolling}
 
 -- one row of five samples, one level, linear, step 1
 abbrev pub shape : Shape
@@ -80,6 +81,13 @@ pub record Bench : Type 0 where
         figure = 10;
         coefficients = pos 4 ∷ pos 0 ∷ pos 4 ∷ pos 0 ∷ pos 12 ∷ [];
         values = pos 12 ∷ pos 12 ∷ pos 12 ∷ pos 24 ∷ pos 36 ∷ [];
+      }
+  -- and rolled: what showing gives, and on the page the figure and a line for each value
+  pub roll160 : (qs vs : List ℤ) (page : List ℕ) → Five qs vs → 150 ≤ length page
+      → rolling qs vs page (take 160 card)
+      ≡ record {
+        shown = showing qs vs (take 160 card);
+        page = ascii "                      10\n   0   0              12\n   0   1              12\n   0   2              12\n   0   3              24\n   0   4              36\n" ++ drop 150 page;
       }
   -- at byte 159 the third plane is not whole
   pub at159 : (qs vs : List ℤ) → Five qs vs → (showing qs vs (take 159 card) .plan ≡ threeLayers 2 0 0) × (showing qs vs (take 159 card) .figure ≡ 19)

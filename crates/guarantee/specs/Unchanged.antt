@@ -12,7 +12,8 @@ use Rattle.header.specs.declared.Plan.{Plan}
 use Rattle.card.specs.Writing.{Writing, writing}
 use Rattle.card.specs.Reading.{Reading, reading, showing}
 use Rattle.card.specs.Refining.{refining}
-use Rattle.trace_card.specs.Boundary.{answerLength, AfterWriting, AfterReading, wrote, left, asked, writeCall, readCall, showCall, refineCall, figureCall, limitCall, cellsCall}
+use Rattle.roll.specs.Rolling.{Rolling, rolling}
+use Rattle.trace_card.specs.Boundary.{answerLength, AfterWriting, AfterReading, AfterRolling, wrote, left, printedOn, asked, writeCall, readCall, showCall, refineCall, rollCall, figureCall, limitCall, cellsCall}
 
 -- 0 is the number of no refusal
 abbrev pub Refused : ℕ → Type 0
@@ -28,6 +29,10 @@ pub record KeptByReading (qs vs : List ℤ) (r : Reading) : Type 0 where
   pub coefficients : Refused (r .refused .number) → r .coefficients ≡ qs
   pub values : Refused (r .refused .number) → r .values ≡ vs
 
+pub record KeptByRolling (qs vs : List ℤ) (paper : List ℕ) (r : Rolling) : Type 0 where
+  pub slices : KeptByReading qs vs (r .shown)
+  pub page : Refused (r .shown .refused .number) → r .page ≡ paper
+
 -- and so of a C function, by the number that it returned
 pub record KeptByWrite (qs vs : List ℤ) (out : List ℕ) (a : AfterWriting) : Type 0 where
   pub coefficients : Refused (a .returned) → a .coefficients ≡ qs
@@ -38,13 +43,18 @@ pub record KeptByRead (qs vs : List ℤ) (a : AfterReading) : Type 0 where
   pub coefficients : Refused (a .returned) → a .coefficients ≡ qs
   pub values : Refused (a .returned) → a .values ≡ vs
 
--- ---- the seven C functions. `answer` is the call's report, which a refused call fills too
+pub record KeptByRoll (qs vs : List ℤ) (paper : List ℕ) (a : AfterRolling) : Type 0 where
+  pub slices : KeptByRead qs vs (a .read)
+  pub page : Refused (a .read .returned) → a .page ≡ paper
+
+-- ---- the eight C functions. `answer` is the call's report, which a refused call fills too
 pub record UnchangedThroughC : Type 0 where
   pub write : (xs : List ℤ) (rows cols levels curve step : ℕ) (qs vs : List ℤ) (out answer : List ℕ)
       → KeptByWrite qs vs out (writeCall xs rows cols levels curve step qs vs out answer)
   pub read : (qs vs : List ℤ) (answer card plan : List ℕ) → KeptByRead qs vs (readCall qs vs answer card plan)
   pub show : (qs vs : List ℤ) (answer card : List ℕ) → KeptByRead qs vs (showCall qs vs answer card)
   pub refine : (qs vs : List ℤ) (answer card plan : List ℕ) (layer : ℕ) → KeptByRead qs vs (refineCall qs vs answer card plan layer)
+  pub roll : (qs vs : List ℤ) (page answer card : List ℕ) → KeptByRoll qs vs page (rollCall qs vs page answer card)
   -- where `answer` or a plan has a wrong length there is no report: nothing at all is written, and 3 is returned
   pub unwritten : (xs : List ℤ) (rows cols levels curve step : ℕ) (qs vs : List ℤ) (out answer : List ℕ) → (length answer ≡ answerLength → ⊥)
       → writeCall xs rows cols levels curve step qs vs out answer ≡ wrote 3 answer qs vs out
@@ -53,6 +63,7 @@ pub record UnchangedThroughC : Type 0 where
   pub unshown : (qs vs : List ℤ) (answer card : List ℕ) → (length answer ≡ answerLength → ⊥) → showCall qs vs answer card ≡ left 3 answer qs vs
   pub unrefined : (qs vs : List ℤ) (answer card plan : List ℕ) (layer : ℕ) → ((length answer ≡ answerLength) × (length plan ≡ layersMost) → ⊥)
       → refineCall qs vs answer card plan layer ≡ left 3 answer qs vs
+  pub unrolled : (qs vs : List ℤ) (page answer card : List ℕ) → (length answer ≡ answerLength → ⊥) → rollCall qs vs page answer card ≡ printedOn 3 answer qs vs page
   pub unbounded : (card plan answer : List ℕ) → ((length answer ≡ answerLength) × (length plan ≡ layersMost) → ⊥) → figureCall card plan answer ≡ asked 3 answer
   pub unplanned-limit : (card : List ℕ) (limit : ℕ) (answer : List ℕ) → (length answer ≡ answerLength → ⊥) → limitCall card limit answer ≡ asked 3 answer
   pub unplanned-cells : (card : List ℕ) (cells : ℕ) (answer : List ℕ) → (length answer ≡ answerLength → ⊥) → cellsCall card cells answer ≡ asked 3 answer
@@ -64,4 +75,5 @@ pub record Unchanged : Type 0 where
   pub read : (qs vs : List ℤ) (bs : List ℕ) (plan : Plan) → KeptByReading qs vs (reading qs vs bs plan)
   pub show : (qs vs : List ℤ) (bs : List ℕ) → KeptByReading qs vs (showing qs vs bs)
   pub refine : (qs vs : List ℤ) (bs : List ℕ) (plan : Plan) (k : ℕ) → KeptByReading qs vs (refining qs vs bs plan k)
+  pub roll : (qs vs : List ℤ) (page bs : List ℕ) → KeptByRolling qs vs page (rolling qs vs page bs)
   pub through-c : UnchangedThroughC

@@ -8,6 +8,7 @@ pub mod CurveLine
 pub mod Turns
 pub mod HeaderLines
 pub mod Opens
+pub mod OpenedSize
 pub mod Total
 pub mod TextLength
 pub mod Refusing

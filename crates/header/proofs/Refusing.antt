@@ -77,8 +77,11 @@ refused-blank trailing n = refl
 
 -- ---- the code's answer
 -- every variant but the first is a refusal
-pub refusing : (r : Refusal) → OneOf (1 ∷ 2 ∷ 3 ∷ 4 ∷ 5 ∷ 6 ∷ 7 ∷ 8 ∷ 9 ∷ 10 ∷ 11 ∷ []) (tagOf the-type r) → detailsOf r .number ≡ 0 → ⊥
-refusing R.Accepted k e = miss (1 ∷ 2 ∷ 3 ∷ 4 ∷ 5 ∷ 6 ∷ 7 ∷ 8 ∷ 9 ∷ 10 ∷ 11 ∷ []) 0 tt k
+abbrev refusals : List ℕ
+refusals = 1 ∷ 2 ∷ 3 ∷ 4 ∷ 5 ∷ 6 ∷ 7 ∷ 8 ∷ 9 ∷ 10 ∷ 11 ∷ 12 ∷ []
+
+pub refusing : (r : Refusal) → OneOf refusals (tagOf the-type r) → detailsOf r .number ≡ 0 → ⊥
+refusing R.Accepted k e = miss refusals 0 tt k
 refusing R.BadSize k e = omega arith
 refusing R.BadSettings k e = omega arith
 refusing R.BadLengths k e = omega arith
@@ -90,6 +93,7 @@ refusing (R.BadPlane layer) k e = omega arith
 refusing (R.BadPlan place) k e = omega arith
 refusing R.LimitBelowStep k e = omega arith
 refusing R.BadCoefficient k e = omega arith
+refusing R.ShortPage k e = omega arith
 
 -- and beside the first the header is right
 module _ (bs : List ℕ) (o : Opened) (e : asOpening o ≡ opening bs) (yes : o .refusal ≡ R.Accepted) where

@@ -21,3 +21,4 @@ detailsOf (R.BadPlane layer) = refusal 8 layer 0
 detailsOf (R.BadPlan place) = refusal 9 place 0
 detailsOf R.LimitBelowStep = refusal 10 0 0
 detailsOf R.BadCoefficient = refusal 11 0 0
+detailsOf R.ShortPage = refusal 12 0 0

@@ -49,6 +49,7 @@ pub enum Refusal {
     BadPlan(u64),
     LimitBelowStep,
     BadCoefficient,
+    ShortPage,
 }
 
 // A refusal by number, with two details.
@@ -147,6 +148,11 @@ pub fn details_of(refusal: Refusal) -> Details
         },
         Refusal::BadCoefficient => Details {
             number: 11,
+            first: 0,
+            second: 0,
+        },
+        Refusal::ShortPage => Details {
+            number: 12,
             first: 0,
             second: 0,
         },

@@ -3,12 +3,13 @@
 use mathlib.Core.Path.{_≡_, sym, subst}
 use mathlib.Core.Bool.{true}
 use mathlib.Core.List.{List}
-use Prim.Native.Nat.{ℕ, zero, suc, _+_, _*_, _/_, _%_, _^_, _<_, _≤_}
-use native.Mathlib.Nat.{le-trans, mul-le-mul-left}
+use Prim.Native.Nat.{ℕ, zero, suc, _+_, _*_, _-_, _/_, _%_, _^_, _<_, _≤_}
+use native.Mathlib.Decide.{decLt}
+use native.Mathlib.Nat.{le-refl, le-trans, mul-le-mul-left}
 use native.Mathlib.Omega.{arith}
 use lib.Arith.{digits-div, digits-mod}
 use lib.IntN.{ℤ, pos}
-use lib.ListN.{length}
+use lib.ListN.{length, List·getD-eq-default}
 use Rattle.integers.specs.Distance.{up, down, Within, Near}
 use Rattle.integers.specs.Floor.{ceilDiv}
 use Rattle.integers.proofs.Diff.{#, lit, _⊞_, _⊠_}
@@ -21,7 +22,7 @@ use Rattle.sheet.specs.Limits.{layersMost, stepMost}
 use Rattle.sheet.specs.Lists.{at}
 use Rattle.sheet.specs.Sheet.{accepted, points, place, layers, has, inLayer, direction, spacing}
 use Rattle.layers.specs.Prediction.{width, rebuiltFrom, predicted, predictedAt}
-use Rattle.layers.specs.Layering.{layering, valuesBy, blank, reads, writes, coefs}
+use Rattle.layers.specs.Layering.{layering, valuesBy, blank, reads, writes, rebuilt, coefs}
 use Rattle.layers.specs.Carry.{carried, carry}
 use Rattle.layers.specs.Workings.Loops.{writtenMost, predictedMost, valueMost, Below, Samples}
 use Rattle.sheet.proofs.Rises.{rises}
@@ -30,7 +31,7 @@ use Rattle.sheet.proofs.Fits.{place-in}
 use Rattle.layers.proofs.Spots.{Spot}
 use Rattle.layers.proofs.Point.{within-more, rebuilt-carry, coefficient-range}
 use Rattle.layers.proofs.Members.{layer-of}
-use Rattle.layers.proofs.Law.{length-blank, coef-at, stage-near, stage-rel}
+use Rattle.layers.proofs.Law.{length-blank, length-rebuilt, coef-at, stage-near, stage-rel}
 use Rattle.layers.proofs.SheetLaw.{Rule, sheet-carries, sheet-proper}
 use Rattle.layers.proofs.Carry.{carried-up, carried-cubic, within-rule, sheet-within}
 
@@ -113,6 +114,18 @@ pub limit-most : limit (2 ^ 31) layersMost ≤ valueMost
 unfolding limit carried ceilDiv
 limit-most = omega arith
 
+-- no number of 23 digits to the base -2 is larger than this (`digits`, proofs/Range, `range-23`), and no value that such coefficients give has more
+-- than 15 decimal digits
+abbrev pub readMost : ℕ
+readMost = 5592405
+
+abbrev pub valueLimit : ℕ
+valueLimit = 10 ^ 15 - 1
+
+pub limit-read : limit readMost layersMost ≤ valueLimit
+unfolding limit carried ceilDiv
+limit-read = omega arith
+
 size-rule : (c : Curve) (m : ℕ) → Rule c (λ a _. Within m a) (λ a _. Within (carried Cubic m) a)
 size-rule c m =
     let r = within-rule c m in
@@ -147,9 +160,23 @@ module _ (sh : Shape) (ok : accepted sh ≡ true) (curve : Curve) (e : ℕ) (ste
       sum : (B k : ℕ) → carried Cubic (limit B k) + B * width e ≤ limit B (suc k)
       sum B k = unfold limit in (omega (arith, product B e step))
 
-  few : (k : ℕ) → k ≤ layers sh → limit (2 ^ 31) k ≤ valueMost
-  few k hk = le-trans (limit-all (2 ^ 31) k layersMost (omega (arith, layers-few sh (accepted-yes sh ok)))) limit-most
+  few : (B k : ℕ) → k ≤ layers sh → limit B k ≤ limit B layersMost
+  few B k hk = limit-all B k layersMost (omega (arith, layers-few sh (accepted-yes sh ok)))
 
   pub any-limit : ((p : ℕ) → p < points sh → Within (2 ^ 31) (at qs p)) → (vs : List ℤ) → length vs ≡ points sh → (k : ℕ) → k ≤ layers sh
       → Below valueMost sh curve k (valuesBy (layering sh curve) (reads e qs) vs k)
-  any-limit small vs l k hk p hp y = within-more (few k hk) (stage-limit (2 ^ 31) small vs l k hk p hp y)
+  any-limit small vs l k hk p hp y = within-more (le-trans (few (2 ^ 31) k hk) limit-most) (stage-limit (2 ^ 31) small vs l k hk p hp y)
+
+  -- after all layers, at every place: past the end stands 0
+  pub rebuilt-limit : ((p : ℕ) → p < points sh → Within readMost (at qs p)) → (p : ℕ) → Within valueLimit (at (rebuilt (layering sh curve) e qs) p)
+  unfolding rebuilt
+  rebuilt-limit small p =
+      let Y = layering sh curve in
+      elim (decLt p (points sh)) [
+        | yes hp ↦
+            within-more (le-trans (few readMost (layers sh) (le-refl _)) limit-read)
+            (stage-limit readMost small (blank Y) (length-blank Y) (layers sh) (le-refl _) p hp (sheet-proper sh ok curve .all p hp))
+        | no past ↦
+            rw (List·getD-eq-default (rebuilt Y e qs) (pos 0) (let l : length (rebuilt Y e qs) ≤ p = omega (arith, length-rebuilt Y e qs) in l))
+            (record { size = omega arith })
+      ]

@@ -1,7 +1,7 @@
 -- Loading, by what each test answers: behind the tests a plan within the whole planes loads planes that are in the bytes; planes that are not fine are refused, and fine ones give the coefficients of the words.
 use mathlib.Core.Bool.{Bool, true, false, _&&_}
 use mathlib.Core.List.{List}
-use mathlib.Core.Path.{_≡_, sym, ap, _∙_}
+use mathlib.Core.Path.{_≡_, sym, ap, subst, _∙_}
 use Prim.Native.Nat.{ℕ, suc, _+_, _*_, _-_, _<_, _≤_}
 use native.Mathlib.Numerals.{add-one}
 use native.Mathlib.Omega.{arith}
@@ -162,6 +162,17 @@ module _ (qs : List ℤ) (bs : List ℕ) (h : Header) (long : ℕ) where
 
   pub whole-good : firstOver (loads (wholePlan h (length bs - long))) (loads (wholePlan h (length bs - long))) ≡ layersMost
   whole-good = none-over (loads (wholePlan h (length bs - long))) (loads (wholePlan h (length bs - long))) (λ k l. omega arith)
+
+  -- the plan of all whole planes, as it is told
+  module _ (y : loadable qs bs h long ≡ true) (plan : Plan) (n : ℕ) (e : plan ≡ wholeIn h n) (left : n ≡ length bs - long) where
+    pub told-whole : plan ≡ wholePlan h (length bs - long)
+    told-whole = e ∙ whole-is h (loadable-right qs bs h long y) n ∙ ap (wholePlan h) left
+
+    pub whole-there : AllThere h long bs (loads plan)
+    whole-there = subst (λ (p : Plan). AllThere h long bs (loads p)) (sym told-whole) (all-there h (loadable-right qs bs h long y) long bs (wholePlan h (length bs - long)) (loadable-here qs bs h long y) whole-good)
+
+    pub whole-loading : loadingWhole qs bs h long plan (firstBad h long bs (loads plan)) ≡ allWhole qs bs h long
+    whole-loading = ap (λ (p : Plan). loadingWhole qs bs h long p (firstBad h long bs (loads p))) told-whole ∙ plan-good y (wholePlan h (length bs - long)) whole-good
 
   -- beside a refusal the plan is that of no planes
   module _ (r : Refusal) (q : List ℤ) (e : asLoading r q ≡ allWhole qs bs h long) where

@@ -1,5 +1,5 @@
 -- What is read from the words is what the planes say: a word that is the sum of bits, each times its power of 2, has those bits, and past the layer's planes there is none.
-use mathlib.Core.Path.{_≡_, refl, sym, ap, _∙_}
+use mathlib.Core.Path.{_≡_, refl, sym, ap, subst, _∙_}
 use mathlib.Core.Bool.{Bool, true, false, cond}
 use mathlib.Core.List.{List, _∷_}
 use Prim.Native.Nat.{ℕ, zero, suc, _+_, _*_, _/_, _%_, _^_, _<_, _≤_}
@@ -13,9 +13,10 @@ use lib.Seq.{ext-getD}
 use Rattle.integers.proofs.Bools.{by, and-no-left}
 use Rattle.digits.specs.Digits.{value}
 use Rattle.digits.specs.Groups.{bitsOf}
-use Rattle.digits.proofs.Words.{bits-more}
+use Rattle.digits.proofs.Range.{Holds}
+use Rattle.digits.proofs.Words.{bits-hold, bits-more}
 use Rattle.sheet.specs.declared.Curve.the-variants.{Linear}
-use Rattle.sheet.specs.Lists.{tabulate, total}
+use Rattle.sheet.specs.Lists.{at, tabulate, total}
 use Rattle.sheet.specs.Sheet.{points, layers, layerSize, placeIn}
 use Rattle.sheet.proofs.Lists.{length-tabulate, getD-tabulate}
 use Rattle.layers.proofs.Members.{in-own, own-below}
@@ -97,6 +98,20 @@ module _ (h : Header) (long : ℕ) (bs : List ℕ) (plan : ℕ → ℕ) where
       ∙ ap (λ (w : ℕ). value (bitsOf placesMost w)) (word-sum k i)
       ∙ ap value (bits-sum (digitRead k i) placesMost (digit-small k i))
       ∙ value-past (planesOf h k) placesMost (digitRead k i) few (digit-past k i)
+
+  -- 23 digits hold every coefficient that is read
+  pub coef-held : (k i : ℕ) → planesOf h k ≤ placesMost → Holds placesMost (coefRead h long bs plan k i)
+  coef-held k i few =
+      let w = wordRead h long bs plan k i in
+      subst (Holds placesMost) (sym (bits-more placesMost 32 w (omega arith) (word-small k i)) ∙ number-read k i few) (bits-hold placesMost w)
+
+  pub read-held : WellFormed h → (p : ℕ) → p < points (h .shape) → Holds placesMost (at (coefsRead h long bs plan) p)
+  unfolding coefsRead
+  read-held r p hp =
+      let sh = h .shape in
+      let k = ownLayer sh p in
+      subst (Holds placesMost) (sym (getD-tabulate (points sh) _ p (pos 0) hp))
+      (coef-held k (placeIn sh k p) (few-planes r k (own-below (sheet-proper sh (r .shape) Linear) p hp)))
 
   -- THE READING: the numbers of all words are the coefficients that the planes of the plan give
   pub read-same : (ws : List ℕ) → WellFormed h → Read h long bs plan ws → spreadAll (h .shape) ws ≡ coefsRead h long bs plan

@@ -7,6 +7,7 @@ mod walking;
 
 use header::Plan;
 use header::Refusal;
+pub use loading::examine;
 pub use loading::load;
 pub use loading::load_whole;
 pub use refining::add_plane;

@@ -6,6 +6,7 @@ ghost use lib.ListN.{length, replicate};
 ghost use Rattle.layers.specs.Samples.{full};
 ghost use Rattle.header.specs.Plan as N;
 ghost use Rattle.header.specs.Opening as O;
+ghost use Rattle.header.specs.Refusals.{detailsOf};
 ghost use Rattle.packing.specs.Workings.Words.{wordsMost};
 ghost use Rattle.loading.specs.InBytes as L;
 ghost use Rattle.loading.specs.Workings.Words as W;
@@ -104,5 +105,20 @@ pub fn load_whole(bytes: &[u8], header: Header, at: usize, coefficients: &mut [i
     match refusal {
         Refusal::Accepted => Whole { refusal, plan },
         _ => none_loaded(refusal),
+    }
+}
+
+// What loading all whole planes is refused for: they are examined, and no coefficient is touched.
+pub fn examine(bytes: &[u8], header: Header, at: usize, coefficients: &[i32]) -> Refusal
+    ensures { λ r. ⌜ detailsOf r ≡ C.allWhole (now (coefficients .entry)) (now (bytes .entry)) header at .refused ⌝ }
+{
+    if !is_loadable(bytes, header, at, coefficients) {
+        return Refusal::BadLengths;
+    }
+    let all = order::whole_planes(header, bytes.len() - at);
+    let mut words = [0u32; MOST_WORDS];
+    match load_body(bytes, at, header, all, &mut words) {
+        Loaded::Bad(layer) => Refusal::BadPlane(layer as u64),
+        Loaded::Fine => Refusal::Accepted,
     }
 }

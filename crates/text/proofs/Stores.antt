@@ -1,13 +1,14 @@
--- Runs stored in a list: a run stored behind another is one longer run, by induction on the first; so a run grows by one element. A text that is put somewhere
--- is such a run, with its end.
+-- Runs stored in a list: a run stored behind another is one longer run, by induction on the first; so a run grows by one element. An element outside of a run may be stored
+-- first or last, so a run stored over a part of another takes its place. A text that is put somewhere is such a run, with its end.
 use mathlib.Core.List.{List, [], _∷_, _++_}
+use mathlib.Core.Logic.{_≢_}
 use mathlib.Core.Path.{_≡_, refl, ap, sym, _∙_}
 use Prim.Native.Nat.{ℕ, suc, _+_, _<_, _≤_}
 use native.Mathlib.Nat.{add-zero}
 use native.Mathlib.Numerals.{add-one}
 use native.Mathlib.Omega.{arith}
 use lib.ListN.{length, take, getD, set, length-append}
-use lib.Seq.{sets, take-suc, take-length, length-take-le}
+use lib.Seq.{sets, set-set, set-comm, take-suc, take-length, length-take-le}
 use Rattle.text.specs.Workings.{putting, after}
 use Rattle.text.proofs.Fitting.{put-fits}
 
@@ -29,6 +30,32 @@ module _ {A : Type 0} where
   -- the whole run
   pub sets-whole : (d : List A) (at : ℕ) (xs : List A) (n : ℕ) → n ≡ length xs → sets d at (take n xs) ≡ sets d at xs
   sets-whole d at xs n e = ap (λ (x : List A). sets d at x) (ap (λ (n : ℕ). take n xs) e ∙ take-length xs)
+
+  -- an element outside of a run
+  pub set-sets : (d : List A) (at : ℕ) (xs : List A) (j : ℕ) (x : A) → ((i : ℕ) → i < length xs → at + i ≢ j) → set (sets d at xs) j x ≡ sets (set d j x) at xs
+  set-sets d at [] j x h = refl
+  set-sets d at (y ∷ xs) j x h =
+      set-sets (set d at y) (suc at) xs j x (λ i l e. h (suc i) (omega arith) (omega arith))
+      ∙ ap (λ (l : List A). sets l (suc at) xs) (set-comm d at j y x (λ e. h 0 (omega arith) (omega arith)))
+
+  -- the element before it
+  pub sets-front : (d : List A) (at : ℕ) (x : A) (xs : List A) → set (sets d (suc at) xs) at x ≡ sets d at (x ∷ xs)
+  sets-front d at x xs = set-sets d (suc at) xs at x (λ i l e. omega arith)
+
+  -- a run over a part of another
+  over-front : (d : List A) (at : ℕ) (b b′ c : List A) → length b ≡ length b′ → sets (sets d at (b ++ c)) at b′ ≡ sets d at (b′ ++ c)
+  over-front d at [] [] c e = refl
+  over-front d at [] (y ∷ b′) c e = absurd (let z : ⊥ = omega arith in z)
+  over-front d at (x ∷ b) [] c e = absurd (let z : ⊥ = omega arith in z)
+  over-front d at (x ∷ b) (y ∷ b′) c e =
+      ap (λ (l : List A). sets l (suc at) b′) (sets-front (set d at x) at y (b ++ c) ∙ ap (λ (l : List A). sets l (suc at) (b ++ c)) (set-set d at x y))
+      ∙ over-front (set d at y) (suc at) b b′ c (omega arith)
+
+  pub sets-over : (d : List A) (at : ℕ) (a b b′ c : List A) → length b ≡ length b′ → sets (sets d at (a ++ (b ++ c))) (at + length a) b′ ≡ sets d at (a ++ (b′ ++ c))
+  sets-over d at [] b b′ c e = ap (λ (n : ℕ). sets (sets d at (b ++ c)) n b′) (add-zero at) ∙ over-front d at b b′ c e
+  sets-over d at (x ∷ a) b b′ c e =
+      let s : at + suc (length a) ≡ suc at + length a = omega arith in
+      ap (λ (n : ℕ). sets (sets (set d at x) (suc at) (a ++ (b ++ c))) n b′) s ∙ sets-over (set d at x) (suc at) a b b′ c e
 
 -- ---- a text that was put at `at` of d, with its end
 pub record Put (d : List ℕ) (at : ℕ) (text out : List ℕ) (end : ℕ) : Type 0 where

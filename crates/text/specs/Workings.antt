@@ -18,7 +18,7 @@ putting out at bytes = cond (fits out at bytes) (sets out at bytes) out
 unfoldable pub after : List ℕ → ℕ → List ℕ → ℕ
 after out at bytes = cond (fits out at bytes) (at + length bytes) at
 
--- how many the largest u64 has
+-- how many characters the largest u64 has
 abbrev pub charactersMost : ℕ
 charactersMost = 20
 

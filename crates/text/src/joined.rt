@@ -1,6 +1,6 @@
 // Numbers in decimal, one or several joined by commas: put at a place, and read.
 ghost use mathlib.Core.Path.{_≡_};
-ghost use Prim.Native.Nat.{_+_, _≤_};
+ghost use Prim.Native.Nat.{_+_, _-_, _≤_};
 ghost use lib.Dec.{leb};
 ghost use lib.ListN.{length, replicate};
 ghost use lib.Seq.{sets};
@@ -22,18 +22,19 @@ pub fn characters(n: u64) -> usize
     count
 }
 
-// Puts a number where there is room for it: the last character behind those of a tenth, so each is written once, in its place.
-fn put_digits(out: &mut [u8], at: usize, n: u64) -> usize
-    requires { ⌜ at + length (D.decimal n) ≤ length (now out) ⌝ }
-    ensures { λ r. ⌜ (r ≡ at + length (D.decimal n)) × (now (out .exit) ≡ sets (now (out .entry)) at (D.decimal n)) ⌝ }
+// Puts a number straight before a place, where there is room for it: the last character first, since a tenth of the number has the others.
+fn put_before(out: &mut [u8], end: usize, n: u64)
+    requires { ⌜ (length (D.decimal n) ≤ end) × (end ≤ length (now out)) ⌝ }
+    ensures { λ r. ⌜ now (out .exit) ≡ sets (now (out .entry)) (end - length (D.decimal n)) (D.decimal n) ⌝ }
 {
-    if n < 10 {
-        out[at] = b'0' + n as u8;
-        return at + 1;
+    let mut place = end;
+    let mut rest = n;
+    while 10 <= rest {
+        place -= 1;
+        out[place] = b'0' + (rest % 10) as u8;
+        rest = rest / 10;
     }
-    let end = put_digits(out, at, n / 10);
-    out[end] = b'0' + (n % 10) as u8;
-    end + 1
+    out[place - 1] = b'0' + rest as u8;
 }
 
 // Puts the characters of a number at a place and answers the place after them. Where they do not fit, nothing is put and the place stays.
@@ -43,10 +44,12 @@ pub fn put_number(out: &mut [u8], at: usize, n: u64) -> usize
     if out.len() < at {
         return at;
     }
-    if out.len() - at < characters(n) {
+    let count = characters(n);
+    if out.len() - at < count {
         return at;
     }
-    put_digits(out, at, n)
+    put_before(out, at + count, n);
+    at + count
 }
 
 // Do numbers with commas between fit in so many bytes? What is left of the room is counted down, since the length of a very long list might wrap.
@@ -80,10 +83,10 @@ fn put_list(out: &mut [u8], at: usize, numbers: &[u64]) -> usize
     if count == 0 {
         return at;
     }
-    let mut end = put_digits(out, at, numbers[0]);
+    let mut end = put_number(out, at, numbers[0]);
     for i in 1..count {
         out[end] = b',';
-        end = put_digits(out, end + 1, numbers[i]);
+        end = put_number(out, end + 1, numbers[i]);
     }
     end
 }

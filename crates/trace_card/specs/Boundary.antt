@@ -18,6 +18,7 @@ use Rattle.card.specs.Writing as W
 use Rattle.card.specs.Reading.{Reading, reading, showing}
 use Rattle.card.specs.Refining.{refining}
 use Rattle.planner.specs.Planning.{Planning, byLimit, byCells}
+use Rattle.roll.specs.Rolling.{Rolling, rolling}
 
 -- ---- the answer "has 24 numbers: [0] the refusal's number, [1] and [2] its details, [3] the card's length (write) or the plan's cells (planning),
 -- [4] the figure, [5] to [17] the plan that was reached, given or found; what a call does not answer is 0"
@@ -112,6 +113,20 @@ module _ (qs vs : List ℤ) (answer : List ℕ) where
   unfoldable pub refineCall : List ℕ → List ℕ → ℕ → AfterReading
   refineCall card plan layer =
       cond (answerable answer) (cond (isPlan plan) (readAs (refining qs vs card (planOf plan) layer)) unread) unread
+
+-- ---- rolling: as showing, and the page
+pub record AfterRolling : Type 0 where
+  pub read : AfterReading
+  pub page : List ℕ
+
+abbrev pub printedOn : ℕ → List ℕ → List ℤ → List ℤ → List ℕ → AfterRolling
+printedOn r a qs vs page = record { read = left r a qs vs; page = page }
+
+abbrev pub rolledAs : Rolling → AfterRolling
+rolledAs r = record { read = readAs (r .shown); page = r .page }
+
+unfoldable pub rollCall : List ℤ → List ℤ → List ℕ → List ℕ → List ℕ → AfterRolling
+rollCall qs vs page answer card = cond (answerable answer) (rolledAs (rolling qs vs page card)) (printedOn 3 answer qs vs page)
 
 -- ---- the figure of a plan, and planning
 pub record AfterAsking : Type 0 where

@@ -3,6 +3,7 @@ mod answer;
 mod bounding;
 mod planning;
 mod reading;
+mod rolling;
 mod writing;
 
 // Numbers in an answer.

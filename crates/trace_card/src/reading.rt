@@ -10,7 +10,7 @@ use card::Reached;
 use sheet::MOST_LAYERS;
 
 // Fills the answer of a call that reaches a plan.
-fn put_reached(answer: &mut [u64], reached: Reached) -> u64
+pub(crate) fn put_reached(answer: &mut [u64], reached: Reached) -> u64
     requires { ⌜ length (now answer) ≡ B.answerLength ⌝ }
     ensures { λ r. ⌜ (r ≡ detailsOf (reached .refusal) .number) × (now (answer .exit) ≡ B.numbers (detailsOf (reached .refusal)) 0 (reached .figure) (reached .plan .planes)) ⌝ }
 {

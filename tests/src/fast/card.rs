@@ -86,7 +86,13 @@ fn whole(header: &Header, body: &[u8]) -> Plan {
     whole
 }
 
-pub fn show(card: &[u8], coefficients: &mut [i32], values: &mut [i64]) -> Result<Reached, Refusal> {
+/// Shows a card, unless something of the header is refused once its planes are found fine.
+pub fn show_unless(
+    card: &[u8],
+    coefficients: &mut [i32],
+    values: &mut [i64],
+    check: impl FnOnce(&Header) -> Result<(), Refusal>,
+) -> Result<(Header, Reached), Refusal> {
     let (header, body) = open(card)?;
     if coefficients.len() != header.points() || values.len() != header.points() {
         return refused(3);
@@ -94,12 +100,16 @@ pub fn show(card: &[u8], coefficients: &mut [i32], values: &mut [i64]) -> Result
     let plan = whole(&header, body);
     let mut words = [0; WORDS];
     load(&header, body, &plan, &mut words).map_err(|layer| Refusal::with(8, layer))?;
+    check(&header)?;
     spread(&header, &words, coefficients);
     rebuild(&header, coefficients, values);
-    Ok(Reached {
-        plan,
-        figure: header.figure(&plan),
-    })
+    let figure = header.figure(&plan);
+    Ok((header, Reached { plan, figure }))
+}
+
+pub fn show(card: &[u8], coefficients: &mut [i32], values: &mut [i64]) -> Result<Reached, Refusal> {
+    let (_, reached) = show_unless(card, coefficients, values, |_| Ok(()))?;
+    Ok(reached)
 }
 
 pub fn refine(

@@ -7,9 +7,11 @@ mod header;
 mod layers;
 mod planes;
 mod planner;
+mod roll;
 
 pub use card::{refine, show, write};
 pub use planner::{plan_by_cells, plan_by_limit};
+pub use roll::roll;
 
 use crate::model::{Curve, Refusal};
 

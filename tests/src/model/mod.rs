@@ -1,5 +1,5 @@
-//! The model, one file for each idea of docs/CARD.md. It was written before that document, from
-//! the customer's request, and shares no code or structure with the proved side.
+//! The model, one file for each idea of docs/CARD.md. All but the roll and the program trace was
+//! written before that document, from the customer's request; none of it shares code or structure with the proved side.
 
 pub mod digits;
 pub mod figure;
@@ -11,6 +11,7 @@ pub mod predict;
 pub mod program;
 pub mod read;
 pub mod refusal;
+pub mod roll;
 pub mod sheet;
 pub mod steps;
 pub mod write;
@@ -22,4 +23,5 @@ pub use planner::{plan_by_cells, plan_by_limit, Planned};
 pub use predict::Curve;
 pub use read::{read, refine, show, Reached};
 pub use refusal::Refusal;
+pub use roll::roll;
 pub use write::write;

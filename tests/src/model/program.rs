@@ -1,19 +1,41 @@
-//! What the program `show` prints for the card on its standard input (docs/CARD.md, "The calls").
+//! What the programs `show` and `trace` print for the card on their standard input (docs/CARD.md,
+//! "The calls").
 
 use super::header::open;
 use super::read::{show, Reached};
 use super::refusal::Refusal;
+use super::roll::{page_bytes, roll};
 
-/// The lines printed: sizes, planes loaded, figure, then a line of values for each row; or one
-/// line for a refused card.
-pub fn shown(card: &[u8]) -> String {
-    match lines(card) {
-        Ok(text) => text,
-        Err(refusal) => format!("refused={}\n", refusal.number),
+/// What `trace` prints on standard output, and what it ends with; a refused card gives one line.
+pub fn trace(words: &[&str], card: &[u8]) -> (String, i32) {
+    let printed = match words {
+        ["show"] => show_lines(card),
+        ["roll"] => roll_lines(card),
+        // The list of words, which is not printed here.
+        _ => return (String::new(), 2),
+    };
+    match printed {
+        Ok(text) => (text, 0),
+        Err(refusal) => (format!("refused={}\n", refusal.number), 1),
     }
 }
 
-fn lines(card: &[u8]) -> Result<String, Refusal> {
+/// What `show` prints; it ends with 0 in every case.
+pub fn shown(card: &[u8]) -> String {
+    let (text, _) = trace(&["show"], card);
+    text
+}
+
+/// The page of a roll in memory of the right size.
+fn roll_lines(card: &[u8]) -> Result<String, Refusal> {
+    let count = open(card)?.shape().count();
+    let mut page = vec![0; page_bytes(count)];
+    roll(card, &mut vec![0; count], &mut vec![0; count], &mut page)?;
+    Ok(String::from_utf8(page).expect("a page is text"))
+}
+
+/// Sizes, planes loaded, figure, then a line of values for each row.
+fn show_lines(card: &[u8]) -> Result<String, Refusal> {
     let opened = open(card)?;
     let count = opened.shape().count();
     let (mut coefficients, mut values) = (vec![0; count], vec![0; count]);

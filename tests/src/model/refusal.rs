@@ -22,6 +22,8 @@ pub const PLAN: u64 = 9;
 pub const LIMIT: u64 = 10;
 /// A coefficient that 23 digits do not reach.
 pub const COEFFICIENT: u64 = 11;
+/// A page too short for the lines of a roll.
+pub const PAGE: u64 = 12;
 
 #[derive(Clone, Copy, Debug, PartialEq, Eq)]
 pub struct Refusal {

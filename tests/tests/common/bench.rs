@@ -27,6 +27,15 @@ pub const LINES: [&[u8]; 7] = [
 /// The first bytes of its planes, each of one cell.
 pub const CELLS: [u8; 6] = [4, 4, 7, 5, 1, 1];
 
+/// The page of the roll of its first 160 bytes.
+pub const ROLL: &str = "                      10
+   0   0              12
+   0   1              12
+   0   2              12
+   0   3              24
+   0   4              36
+";
+
 pub const HEADER_BYTES: usize = 64;
 pub const CARD_BYTES: usize = 256;
 

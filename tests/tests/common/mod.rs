@@ -6,7 +6,9 @@
 
 pub mod bench;
 pub mod document;
+pub mod extremes;
 pub mod files;
+pub mod page;
 
 use trace_card_tests::model::digits::digits_of;
 use trace_card_tests::model::{Curve, Opened, Plan, Refusal, MAX_LAYERS};
@@ -90,6 +92,38 @@ pub fn layer_places(rows: u64, cols: u64, levels: u64) -> Vec<Vec<usize>> {
         places[layer_of(levels, row, col)].push(place);
     }
     places
+}
+
+/// A card with any coefficients that 23 digits hold, those that no writer leaves too.
+pub fn card_with(
+    (rows, cols): (u64, u64),
+    levels: u64,
+    curve: &str,
+    step: u64,
+    coefficients: &[i32],
+) -> Vec<u8> {
+    let layers: Vec<Vec<Vec<u8>>> = layer_places(rows, cols, levels)
+        .iter()
+        .map(|places| {
+            let digits = |&place: &usize| digits_of(coefficients[place].into());
+            places.iter().map(digits).collect()
+        })
+        .collect();
+    let longest = |layer: &Vec<Vec<u8>>| layer.iter().map(Vec::len).max().unwrap_or(0);
+    let planes: Vec<u64> = layers.iter().map(|layer| longest(layer) as u64).collect();
+    let mut cells = Vec::new();
+    for p in (0..23).rev() {
+        for layer in layers.iter().filter(|layer| longest(layer) > p) {
+            let mut plane = vec![0; 32 * layer.len().div_ceil(256)];
+            for (i, digits) in layer.iter().enumerate() {
+                plane[i / 8] |= digits.get(p).unwrap_or(&0) << (i % 8);
+            }
+            cells.extend(plane);
+        }
+    }
+    let count = cells.len() as u64 / 32;
+    let lines = header_lines((rows, cols), levels, curve, step, &planes, count);
+    [card_of(&lines, &[]), cells].concat()
 }
 
 /// The layer, place p, first byte and end of each plane, in card order.

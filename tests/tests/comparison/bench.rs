@@ -1,6 +1,8 @@
 //! The bench card and the ends (docs/CARD.md, "Worked examples"), by both.
 
-use super::both::{figure, plan_by_cells, plan_by_limit, read, refine, show, write, Slices};
+use super::both::{
+    figure, plan_by_cells, plan_by_limit, read, refine, roll, show, write, Slices, B,
+};
 use super::common::{bench, plan, refusal};
 use trace_card_tests::model::{Curve, Refusal};
 use trace_card_tests::random::cases::Case;
@@ -47,6 +49,17 @@ fn its_cuts_are_shown_and_read() {
     assert_eq!(whole.coefficients, bench::COEFFICIENTS);
     let cut_in_header = show(&card[..63], &mut Slices::new(5));
     assert_eq!(cut_in_header, Err(refusal(5, [0, 0])));
+}
+
+#[test]
+fn its_cut_is_rolled() {
+    let [_, shown, ..] = bench::shown();
+    let mut slices = Slices::new(5).and_page(150 + 7);
+    let reached = roll(&bench::card()[..shown.length], &mut slices);
+    assert_eq!(reached, Ok(shown.reached));
+    assert_eq!(slices.values, shown.values);
+    assert_eq!(slices.page[..150], *bench::ROLL.as_bytes());
+    assert_eq!(slices.page[150..], [B; 7]);
 }
 
 /// From no planes to the three of the first 160 bytes.

@@ -5,6 +5,7 @@ use super::calls::{differences, proved, Call, Left, Memory};
 use super::promised::{planned, promised};
 use trace_card_tests::boundary::ANSWER;
 use trace_card_tests::lent::ROOMS;
+use trace_card_tests::model::roll::page_bytes;
 use trace_card_tests::model::write::OUTPUT_BYTES;
 use trace_card_tests::model::{self, Curve, Plan, Planned, Reached, Refusal};
 use trace_card_tests::random::cases::Case;
@@ -104,6 +105,8 @@ pub fn written(case: &Case) -> Vec<u8> {
 pub struct Slices {
     pub coefficients: Vec<i32>,
     pub values: Vec<i64>,
+    /// For a roll alone.
+    pub page: Vec<u8>,
 }
 
 impl Slices {
@@ -111,11 +114,25 @@ impl Slices {
         Slices {
             coefficients: vec![Q; coefficients],
             values: vec![V; values],
+            page: vec![],
         }
     }
 
     pub fn new(points: usize) -> Slices {
         Slices::of_lengths(points, points)
+    }
+
+    /// With a page of so many bytes.
+    pub fn and_page(self, page: usize) -> Slices {
+        Slices {
+            page: vec![B; page],
+            ..self
+        }
+    }
+
+    /// With a page that is just long enough for the points.
+    pub fn for_roll(points: usize) -> Slices {
+        Slices::new(points).and_page(page_bytes(points))
     }
 
     pub fn holding(coefficients: &[i32]) -> Slices {
@@ -133,12 +150,14 @@ fn reach(call: Call, card: &[u8], plan: &[u64], slices: &mut Slices) -> Result<R
         plan: plan.to_vec(),
         coefficients: std::mem::take(&mut slices.coefficients),
         values: std::mem::take(&mut slices.values),
+        page: std::mem::take(&mut slices.page),
         answer: vec![A; ANSWER],
         ..Memory::default()
     };
     check(call, &mut memory);
     slices.coefficients = memory.coefficients;
     slices.values = memory.values;
+    slices.page = memory.page;
     refusal_in(&memory.answer)?;
     Ok(Reached {
         plan: plan_in(&memory.answer),
@@ -152,6 +171,10 @@ pub fn read(card: &[u8], plan: &Plan, slices: &mut Slices) -> Result<Reached, Re
 
 pub fn show(card: &[u8], slices: &mut Slices) -> Result<Reached, Refusal> {
     reach(Call::Show, card, &[], slices)
+}
+
+pub fn roll(card: &[u8], slices: &mut Slices) -> Result<Reached, Refusal> {
+    reach(Call::Roll, card, &[], slices)
 }
 
 pub fn refine(

@@ -16,6 +16,7 @@ pub enum Call {
     },
     Read,
     Show,
+    Roll,
     Refine {
         layer: u64,
     },
@@ -35,6 +36,7 @@ pub struct Memory {
     pub coefficients: Vec<i32>,
     pub values: Vec<i64>,
     pub output: Vec<u8>,
+    pub page: Vec<u8>,
     pub answer: Vec<u64>,
 }
 
@@ -47,16 +49,18 @@ pub enum Slice {
     Coefficients,
     Values,
     Output,
+    Page,
     Answer,
 }
 
-pub const SLICES: [Slice; 7] = [
+pub const SLICES: [Slice; 8] = [
     Slice::Samples,
     Slice::Card,
     Slice::Plan,
     Slice::Coefficients,
     Slice::Values,
     Slice::Output,
+    Slice::Page,
     Slice::Answer,
 ];
 
@@ -69,6 +73,7 @@ impl Memory {
             Slice::Coefficients => self.coefficients.len(),
             Slice::Values => self.values.len(),
             Slice::Output => self.output.len(),
+            Slice::Page => self.page.len(),
             Slice::Answer => self.answer.len(),
         }
     }
@@ -82,6 +87,7 @@ impl Memory {
             Slice::Coefficients => self.coefficients.resize(length, 0),
             Slice::Values => self.values.resize(length, 0),
             Slice::Output => self.output.resize(length, 0),
+            Slice::Page => self.page.resize(length, 0),
             Slice::Answer => self.answer.resize(length, 0),
         }
     }
@@ -98,11 +104,12 @@ pub fn proved(call: Call, memory: &Memory, room: Room) -> Left {
     let mut coefficients = Lent::new(&memory.coefficients, room);
     let mut values = Lent::new(&memory.values, room);
     let mut output = Lent::new(&memory.output, room);
+    let mut page = Lent::new(&memory.page, room);
     let mut answer = Lent::new(&memory.answer, room);
     let returned = {
         let (samples, card, plan) = (samples.get(), card.get(), plan.get());
         let (coefficients, values) = (coefficients.lend(), values.lend());
-        let (output, answer) = (output.lend(), answer.lend());
+        let (output, page, answer) = (output.lend(), page.lend(), answer.lend());
         match call {
             Call::Write {
                 rows,
@@ -124,6 +131,7 @@ pub fn proved(call: Call, memory: &Memory, room: Room) -> Left {
             ),
             Call::Read => boundary::read(card, plan, coefficients, values, answer),
             Call::Show => boundary::show(card, coefficients, values, answer),
+            Call::Roll => boundary::roll(card, coefficients, values, page, answer),
             Call::Refine { layer } => {
                 boundary::refine(card, plan, layer, coefficients, values, answer)
             }
@@ -139,6 +147,7 @@ pub fn proved(call: Call, memory: &Memory, room: Room) -> Left {
         coefficients: coefficients.take_back(),
         values: values.take_back(),
         output: output.take_back(),
+        page: page.take_back(),
         answer: answer.take_back(),
     };
     (returned, left)
@@ -160,6 +169,7 @@ pub fn differences(found: &Memory, expected: &Memory) -> Vec<String> {
         first_wrong("coefficients", &found.coefficients, &expected.coefficients),
         first_wrong("values", &found.values, &expected.values),
         first_wrong("output", &found.output, &expected.output),
+        first_wrong("page", &found.page, &expected.page),
         first_wrong("answer", &found.answer, &expected.answer),
     ];
     wrong.into_iter().flatten().collect()

@@ -1,6 +1,8 @@
 //! Damaged headers through every call but writing.
 
-use super::both::{figure, plan_by_cells, plan_by_limit, read, refine, show, written, Slices};
+use super::both::{
+    figure, plan_by_cells, plan_by_limit, read, refine, roll, show, written, Slices,
+};
 use trace_card_tests::boundary::PLAN;
 use trace_card_tests::model::open;
 use trace_card_tests::random::cases::Case;
@@ -13,6 +15,7 @@ fn every_call(card: &[u8], layer: u64, points: usize) -> bool {
     // Coefficients out of range are refusal 11; refining wants some that are not.
     let slices = Slices::holding(&vec![1; points]);
     let _ = show(card, &mut slices.clone());
+    let _ = roll(card, &mut Slices::for_roll(points));
     let _ = read(card, &none, &mut slices.clone());
     let _ = refine(card, &none, layer, &mut slices.clone());
     for asked in [layer, 70_000, u64::MAX] {

@@ -6,6 +6,7 @@ use super::calls::{Call, Memory, SLICES};
 use super::common::{card_of, header_lines};
 use trace_card_tests::boundary::ANSWER;
 use trace_card_tests::model::planes::{cells_in, whole_planes};
+use trace_card_tests::model::roll::page_bytes;
 use trace_card_tests::model::sheet::Shape;
 use trace_card_tests::model::write::OUTPUT_BYTES;
 use trace_card_tests::model::{open, Plan};
@@ -117,7 +118,7 @@ fn any_plan(random: &mut Random, whole: &[u64]) -> Plan {
 }
 
 /// All calls, with any numbers; a sheet written has mostly this size.
-fn all_calls(random: &mut Random, (rows, cols): (u64, u64)) -> [Call; 7] {
+fn all_calls(random: &mut Random, (rows, cols): (u64, u64)) -> [Call; 8] {
     let mut size = |right| match random.below(8) {
         0 => any_number(random, 10),
         _ => right,
@@ -133,6 +134,7 @@ fn all_calls(random: &mut Random, (rows, cols): (u64, u64)) -> [Call; 7] {
         },
         Call::Read,
         Call::Show,
+        Call::Roll,
         Call::Refine {
             layer: any_number(random, 4),
         },
@@ -147,6 +149,7 @@ fn all_calls(random: &mut Random, (rows, cols): (u64, u64)) -> [Call; 7] {
 fn any_memory(random: &mut Random, call: Call, card: &[u8], plan: &Plan, points: usize) -> Memory {
     let odd = random.once_in(6);
     let writes = matches!(call, Call::Write { .. });
+    let rolls = matches!(call, Call::Roll);
     let mut memory = Memory {
         samples: (0..points)
             .map(|_| match random.below(40) {
@@ -164,6 +167,7 @@ fn any_memory(random: &mut Random, call: Call, card: &[u8], plan: &Plan, points:
             .collect(),
         values: (0..points).map(|_| random.draw() as i64).collect(),
         output: vec![B; if writes { OUTPUT_BYTES } else { 0 }],
+        page: vec![B; if rolls { page_bytes(points) } else { 0 }],
         answer: vec![A; ANSWER],
     };
     if random.once_in(6) {
@@ -183,7 +187,7 @@ fn any_memory(random: &mut Random, call: Call, card: &[u8], plan: &Plan, points:
 }
 
 /// How often each call returned each number.
-type Met = [[u64; 12]; 7];
+type Met = [[u64; 13]; 8];
 
 /// Makes all calls on these bytes, with slices for the sheet that they open to, or for any.
 fn attack(random: &mut Random, card: &[u8], met: &mut Met) {
@@ -201,10 +205,11 @@ fn attack(random: &mut Random, card: &[u8], met: &mut Met) {
 
 /// The numbers that each of these calls may return: its own refusals, those of opening a card,
 /// and 3 for an answer or a plan of another length.
-const RETURNED: [&[usize]; 7] = [
+const RETURNED: [&[usize]; 8] = [
     &[0, 1, 2, 3, 4],
     &[0, 3, 5, 6, 7, 8, 9],
     &[0, 3, 5, 6, 7, 8],
+    &[0, 3, 5, 6, 7, 8, 12],
     &[0, 3, 5, 6, 7, 8, 9, 11],
     &[0, 3, 5, 6, 7, 9],
     &[0, 3, 5, 6, 7, 10],
@@ -214,7 +219,7 @@ const RETURNED: [&[usize]; 7] = [
 #[test]
 fn random_bytes() {
     let mut random = Random::new(551);
-    let mut met: Met = [[0; 12]; 7];
+    let mut met: Met = [[0; 13]; 8];
     for _ in 0..10_000 {
         let length = random.below(400);
         let bytes: Vec<u8> = (0..length).map(|_| random.draw() as u8).collect();
@@ -231,7 +236,7 @@ fn random_bytes() {
 #[test]
 fn bytes_like_cards() {
     let mut random = Random::new(552);
-    let mut met: Met = [[0; 12]; 7];
+    let mut met: Met = [[0; 13]; 8];
     for _ in 0..25_000 {
         let bytes = card_like(&mut random);
         attack(&mut random, &bytes, &mut met);

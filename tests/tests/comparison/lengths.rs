@@ -15,10 +15,11 @@ const WRITE: Call = Call::Write {
 };
 
 /// Calls that are all accepted in the memory below.
-const CALLS: [Call; 7] = [
+const CALLS: [Call; 8] = [
     WRITE,
     Call::Read,
     Call::Show,
+    Call::Roll,
     Call::Refine { layer: 1 },
     Call::Figure,
     Call::PlanByLimit(9),
@@ -36,6 +37,7 @@ fn memory() -> Memory {
         coefficients: vec![1; 5],
         values: vec![V; 5],
         output: vec![B; 32_768],
+        page: vec![B; 150],
         answer: vec![A; ANSWER],
     }
 }
@@ -43,12 +45,15 @@ fn memory() -> Memory {
 /// What a call returns where one of its slices is so long, and 0 where it does not take it.
 fn expected(call: Call, slice: Slice, length: usize) -> u64 {
     let writes = matches!(call, Call::Write { .. });
-    let reads = matches!(call, Call::Read | Call::Show | Call::Refine { .. });
+    let rolls = matches!(call, Call::Roll);
+    let reads = rolls || matches!(call, Call::Read | Call::Show | Call::Refine { .. });
     let plans = matches!(call, Call::Read | Call::Refine { .. } | Call::Figure);
     let wrong = match slice {
         Slice::Samples => writes && length != 5,
         Slice::Coefficients | Slice::Values => (writes || reads) && length != 5,
         Slice::Output => writes && length < 32_768,
+        Slice::Page if rolls && length < 150 => return 12,
+        Slice::Page => false,
         Slice::Plan => plans && length != 13,
         Slice::Answer => length != 24,
         // The header is cut, or bytes follow the last cell.
@@ -112,7 +117,7 @@ fn several_slices_at_once() {
         let returned = check(call, &mut only_answer);
         let number = match call {
             Call::Read | Call::Refine { .. } | Call::Figure | Call::Write { .. } => 3,
-            Call::Show | Call::PlanByLimit(_) | Call::PlanByCells(_) => 5,
+            Call::Show | Call::Roll | Call::PlanByLimit(_) | Call::PlanByCells(_) => 5,
         };
         assert_eq!(returned, number, "{call:?}, no slice but the answer");
     }

@@ -19,4 +19,5 @@ mod planning;
 mod promised;
 mod reading;
 mod refining;
+mod rolling;
 mod writing;

@@ -78,6 +78,10 @@ pub fn promised(call: Call, memory: &Memory) -> Left {
             told(written, |length| answer_with(length, 0, &[0; PLAN]))
         }
         (Call::Show, _) => reached(model::show(card, coefficients, values)),
+        (Call::Roll, _) => {
+            let page = &mut left.page;
+            reached(model::roll(card, coefficients, values, page))
+        }
         (Call::PlanByLimit(limit), _) => planned(model::plan_by_limit(card, limit)),
         (Call::PlanByCells(cells), _) => planned(model::plan_by_cells(card, cells)),
         (_, Err(_)) => return (3, left),

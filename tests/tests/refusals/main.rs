@@ -8,10 +8,11 @@ mod damage;
 mod header;
 mod reading;
 mod refining;
+mod rolling;
 mod writing;
 
 use trace_card_tests::model::{
-    figure, open, plan_by_cells, plan_by_limit, read, refine, show, Plan, Reached, Refusal,
+    figure, open, plan_by_cells, plan_by_limit, read, refine, roll, show, Plan, Reached, Refusal,
     MAX_LAYERS,
 };
 
@@ -50,6 +51,19 @@ fn show_on(card: &[u8], points: usize) -> Result<(Reached, Vec<i32>, Vec<i64>), 
     on_slices((points, points), |q, v| show(card, q, v))
 }
 
+/// Rolls on filled slices of these lengths and a filled page, which keeps the filling where the
+/// call is refused. Answers the page.
+fn roll_on(card: &[u8], lengths: (usize, usize), page: usize) -> Result<Vec<u8>, Refusal> {
+    let mut page = vec![B; page];
+    match on_slices(lengths, |q, v| roll(card, q, v, &mut page)) {
+        Ok(_) => Ok(page),
+        Err(refusal) => {
+            assert!(page.iter().all(|&b| b == B));
+            Err(refusal)
+        }
+    }
+}
+
 /// Every call but writing opens the card first, whatever else it was handed.
 fn all_refuse(card: &[u8], expected: Refusal) {
     let absurd = [u64::MAX; MAX_LAYERS];
@@ -59,6 +73,7 @@ fn all_refuse(card: &[u8], expected: Refusal) {
         Err(expected)
     );
     assert_eq!(on_slices((0, 3), |q, v| show(card, q, v)), Err(expected));
+    assert_eq!(roll_on(card, (0, 3), 0), Err(expected));
     assert_eq!(
         on_slices((2, 1), |q, v| refine(card, &absurd, u64::MAX, q, v)),
         Err(expected)

@@ -39,6 +39,9 @@ enum-told-7 c = search needs
 enum-told-8 : tie.Need-enum-told-8
 enum-told-8 c = search needs
 
+enum-told-9 : tie.Need-enum-told-9
+enum-told-9 c = search needs
+
 returns : tie.Need-returns
 returns c = rw (c .enum-told .given .1)
 
@@ -75,6 +78,9 @@ returns-11 c = rw (c .enum-told7 .given .1)
 returns-12 : tie.Need-returns-12
 returns-12 c = rw (c .enum-told8 .given .1)
 
+returns-13 : tie.Need-returns-13
+returns-13 c = rw (c .enum-told9 .given .1)
+
 pub details-of-spec : {M : Type 1} → statement M
 details-of-spec =
     tie.close
@@ -91,6 +97,7 @@ details-of-spec =
     enum-known-refusal-4
     enum-told-7
     enum-told-8
+    enum-told-9
     returns
     returns-2
     returns-3
@@ -102,4 +109,5 @@ details-of-spec =
     returns-9
     returns-10
     returns-11
-    returns-12)
+    returns-12
+    returns-13)

@@ -10,7 +10,7 @@ use Rattle.sheet.specs.Limits.{pointsMost}
 use Rattle.sheet.specs.Sheet.{points}
 use Rattle.header.specs.declared.Details.{Details}
 use Rattle.card.specs.Reading.{showing}
-use Rattle.display.proofs.OpenedSize.{Small}
+use Rattle.header.proofs.OpenedSize.{Small}
 use Rattle.display.proofs.Seeing.{sheet-small, shown-is, values-are}
 use borrow.Author.Needs.{needs}
 use Rattle.display.proofs.answers.shown_of.Statement.{statement}

@@ -13,11 +13,11 @@ use lib.IntN.{ℤ, pos}
 use lib.ListN.{length, getD}
 use mir.Facts.{toZ-ofZ}
 use Rattle.integers.proofs.Bools.{by}
+use Rattle.text.specs.Decimal.{signed}
+use Rattle.text.proofs.Signs.{signed-most}
 use Rattle.header.specs.Header.{asciiFrom}
-use Rattle.display.specs.Shown.{signed}
 use Rattle.display.specs.Workings.{pieceMost, extended, rowStart, rowEnd, valuePiece}
 use Rattle.display.proofs.Behind.{long, holds-more}
-use Rattle.display.proofs.Signs.{signed-length}
 use Rattle.display.proofs.pieces.value_piece.Statement.{statement}
 use Rattle.display.proofs.pieces.value_piece.Tie as tie
 
@@ -78,7 +78,7 @@ ends : (c : tie.After-with-value) → c .with-value .result .length + 1 ≤ piec
 ends c =
     let r = c .before .before in
     let s = r .before .before .before in
-    omega (arith, long (r .row-start .ensures), start-short (s .args .i % s .args .cols), long (put c), signed-length (value c) (c .before .with-value-arg .given))
+    omega (arith, long (r .row-start .ensures), start-short (s .args .i % s .args .cols), long (put c), signed-most (value c) (c .before .with-value-arg .given))
 
 add-with-end : tie.Need-add-with-end
 add-with-end c =

@@ -6,10 +6,10 @@ use mir.Facts.{toZ-ofZ}
 use borrow.Author.Needs.{needs}
 use Rattle.integers.proofs.Diff.{lit}
 use Rattle.text.specs.Decimal.{decimal}
+use Rattle.text.proofs.Signs.{signed-below, signed-above}
 use Rattle.header.specs.Header.{asciiFrom, ascii}
 use Rattle.integers.proofs.Machine.{arg, lt-test, not-lt-test}
 use Rattle.display.proofs.Behind.{long, extended-more}
-use Rattle.display.proofs.Signs.{signed-below, signed-above}
 use Rattle.display.proofs.pieces.with_value.Statement.{statement}
 use Rattle.display.proofs.pieces.with_value.Tie as tie
 

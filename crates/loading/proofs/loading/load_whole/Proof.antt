@@ -1,7 +1,7 @@
 -- As `load`, with the plan of all whole planes, which are within themselves; the plan is answered beside no refusal.
 use mathlib.Core.Bool.{true}
 use mathlib.Core.List.{List}
-use mathlib.Core.Path.{_≡_, refl, sym, ap, subst, _∙_}
+use mathlib.Core.Path.{_≡_, refl, sym, ap, _∙_}
 use Prim.Native.Nat.{ℕ, _-_, _≤_}
 use native.Mathlib.Omega.{arith}
 use borrow.Author.Needs.{needs}
@@ -16,9 +16,8 @@ use Rattle.header.specs.Refusals.{detailsOf}
 use Rattle.order.specs.CardOrder.{wholePlan}
 use Rattle.header.proofs.Refusing.{refusing}
 use Rattle.loading.specs.InBytes.{firstBad}
-use Rattle.loading.specs.Workings.Words.{AllThere}
 use Rattle.loading.specs.Workings.Calls.{Loading, asLoading, loadable, loadingWhole, allWhole}
-use Rattle.loading.proofs.Loads.{loadable-right, loadable-here, loadable-full, whole-is, all-there, not-loadable, plan-good, whole-good, plan-whole, plan-none}
+use Rattle.loading.proofs.Loads.{loadable-right, loadable-here, loadable-full, not-loadable, told-whole, whole-there, whole-loading, plan-whole, plan-none}
 use Rattle.loading.proofs.loading.load_whole.Statement.{statement}
 use Rattle.loading.proofs.loading.load_whole.Tie as tie
 
@@ -42,9 +41,7 @@ abbrev Whole : tie.Start → Plan
 Whole s = wholePlan (s .args .header) (length (Bs s) - s .args .at)
 
 whole : (w : tie.After-whole-planes) → w .whole-planes .result ≡ Whole (S (w .before))
-whole w =
-    let s = S (w .before) in
-    w .whole-planes .ensures ∙ whole-is (s .args .header) (loadable-right (Qs s) (Bs s) (s .args .header) (s .args .at) (can (w .before))) _ ∙ ap (wholePlan (s .args .header)) (omega arith)
+whole w = let s = S (w .before) in told-whole (Qs s) (Bs s) (s .args .header) (s .args .at) (can (w .before)) (w .whole-planes .result) _ (w .whole-planes .ensures) (omega arith)
 
 as-told : {r r′ : Refusal} {q : List ℤ} {l : Loading} → r′ ≡ r → asLoading r q ≡ l → asLoading r′ q ≡ l
 as-told {q = q} x e = ap (λ (r : Refusal). asLoading r q) x ∙ e
@@ -77,25 +74,19 @@ slice-aggregate-load-planes c = search needs
 load-planes-requires : tie.Need-load-planes-requires
 load-planes-requires c κs =
     let w = c .before .before in
-    let e = w .before in
-    let s = S e in
+    let s = S (w .before) in
     let h = s .args .header in
-    let r = loadable-right (Qs s) (Bs s) h (s .args .at) (can e) in (
-      (r, here e, refl),
+    let y = can (w .before) in (
+      (loadable-right (Qs s) (Bs s) h (s .args .at) y, here (w .before), refl),
       (
-        loadable-full (Qs s) (Bs s) h (s .args .at) (can e),
-        subst (λ (p : Plan). AllThere h (s .args .at) (Bs s) (loads p)) (sym (whole w)) (all-there h r (s .args .at) (Bs s) (Whole s) (here e) (whole-good (Qs s) (Bs s) h (s .args .at))),
+        loadable-full (Qs s) (Bs s) h (s .args .at) y,
+        whole-there (Qs s) (Bs s) h (s .args .at) y (w .whole-planes .result) _ (w .whole-planes .ensures) (omega arith),
       ),
     )
 
 -- what the planes' loading comes to
-all-is : (w : tie.After-whole-planes) → (let s = S (w .before) in let plan = w .whole-planes .result in (l : Loading) → l ≡ loadingWhole (Qs s) (Bs s) (s .args .header) (s .args .at) plan (firstBad (s .args .header) (s .args .at) (Bs s) (loads plan)) → l ≡ allWhole (Qs s) (Bs s) (s .args .header) (s .args .at))
-all-is w l e =
-    let s = S (w .before) in
-    let h = s .args .header in
-    e
-    ∙ ap (λ (p : Plan). loadingWhole (Qs s) (Bs s) h (s .args .at) p (firstBad h (s .args .at) (Bs s) (loads p))) (whole w)
-    ∙ plan-good (Qs s) (Bs s) h (s .args .at) (can (w .before)) (Whole s) (whole-good (Qs s) (Bs s) h (s .args .at))
+comes : (w : tie.After-whole-planes) → (let s = S (w .before) in let plan = w .whole-planes .result in loadingWhole (Qs s) (Bs s) (s .args .header) (s .args .at) plan (firstBad (s .args .header) (s .args .at) (Bs s) (loads plan)) ≡ allWhole (Qs s) (Bs s) (s .args .header) (s .args .at))
+comes w = let s = S (w .before) in whole-loading (Qs s) (Bs s) (s .args .header) (s .args .at) (can (w .before)) (w .whole-planes .result) _ (w .whole-planes .ensures) (omega arith)
 
 enum-told : tie.Need-enum-told
 enum-told c = search needs
@@ -111,7 +102,7 @@ returns-2 c =
     let p = c .before .before .before .before in
     let w = p .before .before .before in
     let s = S (w .before) in
-    let e = all-is w _ (p .load-planes .ensures) in
+    let e = p .load-planes .ensures ∙ comes w in
     (e, whole w ∙ plan-whole (Qs s) (Bs s) (s .args .header) (s .args .at) (p .load-planes .result) _ e (c .enum-told .given .1))
 
 same-length-3 : tie.Need-same-length-3
@@ -122,7 +113,7 @@ returns-3 c =
     let p = c .before .before .before .before in
     let w = p .before .before .before in
     let s = S (w .before) in
-    let e = all-is w _ (p .load-planes .ensures) in (
+    let e = p .load-planes .ensures ∙ comes w in (
       as-told (c .none-loaded2 .ensures .0) e,
       c .none-loaded2 .ensures .1 ∙ plan-none (Qs s) (Bs s) (s .args .header) (s .args .at) (p .load-planes .result) _ e (refusing (p .load-planes .result) (c .before .match .keys2)),
     )

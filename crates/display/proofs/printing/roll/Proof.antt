@@ -1,0 +1,48 @@
+-- By the test of the length, as the definition has it; the slices are as long as they have to be.
+use mathlib.Core.Path.{refl}
+use native.Mathlib.Omega.{arith}
+use borrow.Author.Needs.{needs}
+use borrow.Author.Tests.{lt-ltb, le-ltb}
+use denote.Ref.{now}
+use lib.ListN.{length, length-replicate}
+use Rattle.display.specs.Workings.{bufferBytes}
+use Rattle.display.proofs.printing.roll.Statement.{statement}
+use Rattle.display.proofs.printing.roll.Tie as tie
+
+refuse-long-requires : tie.Need-refuse-long-requires
+refuse-long-requires c κs = search needs
+
+returns : tie.Need-returns
+returns c =
+    let bs = now (c .before .before .before .args .bytes) in
+    rw (le-ltb (length bs) bufferBytes (omega arith)) (c .refuse-long .ensures)
+
+slice-aggregate-roll-in : tie.Need-slice-aggregate-roll-in
+slice-aggregate-roll-in c = search needs
+
+slice-aggregate-roll-in-2 : tie.Need-slice-aggregate-roll-in-2
+slice-aggregate-roll-in-2 c = search needs
+
+slice-aggregate-roll-in-3 : tie.Need-slice-aggregate-roll-in-3
+slice-aggregate-roll-in-3 c = search needs
+
+roll-in-requires : tie.Need-roll-in-requires
+roll-in-requires c κs = (refl, refl, simp length-replicate (omega arith))
+
+returns-2 : tie.Need-returns-2
+returns-2 c =
+    let r = c .before .before .before in
+    let bs = now (r .before .before .before .before .before .before .args .bytes) in
+    rw (lt-ltb (length bs) bufferBytes (omega arith)) (r .roll-in .ensures)
+
+pub roll-spec : {M : Type 1} → statement M
+roll-spec =
+    tie.close
+    (tie.spec
+    refuse-long-requires
+    returns
+    slice-aggregate-roll-in
+    slice-aggregate-roll-in-2
+    slice-aggregate-roll-in-3
+    roll-in-requires
+    returns-2)
