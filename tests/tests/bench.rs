@@ -1,9 +1,9 @@
-//! The bench card and the ends (docs/CARD.md, "Worked examples"), by the model; `comparison/bench.rs`
-//! has the calls by the proved code too, and `document.rs` the document's own words.
+//! The bench card, the narrow example and the ends (docs/CARD.md, "Worked examples"), by the model;
+//! `comparison/bench.rs` has the calls by the proved code too, and `document.rs` the document's own words.
 
 mod common;
 
-use common::{bench, card_of, header_lines, highest_first, plan, refusal};
+use common::{bench, card_of, header_lines, highest_first, narrow, plan, refusal};
 use trace_card_tests::model::digits::{digits_of, weight};
 use trace_card_tests::model::figure::{carry, loss};
 use trace_card_tests::model::predict::cubic;
@@ -130,6 +130,18 @@ fn cubic_prediction_and_carry() {
     assert_eq!(carry(Curve::Cubic, 4), 5);
     assert_eq!(carry(Curve::Cubic, 5), 7);
     assert_eq!(carry(Curve::Linear, 4), 4);
+}
+
+#[test]
+fn the_narrow_example() {
+    let card = narrow::header();
+    for (plan, own) in narrow::figures() {
+        assert_eq!(figure(&card, &plan), Ok(own));
+    }
+    for (limit, planned) in narrow::planned_by_limit() {
+        assert_eq!(plan_by_limit(&card, limit), Ok(planned));
+        assert_eq!(plan_by_cells(&card, planned.cells), Ok(planned));
+    }
 }
 
 #[test]

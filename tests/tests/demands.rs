@@ -8,10 +8,10 @@ use common::{
     whole_in,
 };
 use trace_card_tests::model::{
-    figure, open, plan_by_limit, read, refine, show, write, Opened, Plan, Reached, Refusal,
+    figure, open, plan_by_limit, read, refine, show, write, Curve, Opened, Plan, Reached, Refusal,
     MAX_LAYERS,
 };
-use trace_card_tests::random::cases::{Case, CURVES, LARGE_SIZES};
+use trace_card_tests::random::cases::{shapes_at_narrow_edge, Case, CURVES, LARGE_SIZES};
 use trace_card_tests::random::plans::plan_of_most;
 use trace_card_tests::random::sheets::{sheet, Kind, KINDS};
 use trace_card_tests::random::Random;
@@ -299,22 +299,67 @@ fn every_cut_of_small_cards_is_shown_within_its_figure() {
     }
 }
 
+fn check_random_cuts(random: &mut Random, case: &Case) {
+    let card = case.write().card;
+    let opened = open(&card).unwrap();
+    let sizes = sizes_of(&opened);
+    for _ in 0..6 {
+        let length = random.length(opened.header_length, card.len());
+        check_cut(case, &opened, &sizes, &card[..length]);
+    }
+}
+
 #[test]
 fn random_cuts_of_large_cards_are_shown_within_their_figure() {
     let mut random = Random::new(207);
     for (rows, cols) in LARGE_SIZES {
         for kind in KINDS {
             let case = Case::of_kind(&mut random, kind, rows, cols);
-            let card = case.write().card;
-            let opened = open(&card).unwrap();
-            let sizes = sizes_of(&opened);
-            let header = opened.header_length;
-            for _ in 0..6 {
-                let length = random.length(header, card.len());
-                check_cut(&case, &opened, &sizes, &card[..length]);
-            }
+            check_random_cuts(&mut random, &case);
         }
     }
+}
+
+#[test]
+fn random_cuts_at_the_edge_of_narrow_are_shown_within_their_figure() {
+    let mut random = Random::new(211);
+    for shape in shapes_at_narrow_edge() {
+        for kind in KINDS {
+            let mut case = Case::of_shape(&mut random, shape, Curve::Cubic);
+            case.samples = sheet(&mut random, kind, case.rows, case.cols);
+            check_random_cuts(&mut random, &case);
+        }
+    }
+}
+
+/// One row with one level, cubic, step 0, pulled at the header's end, so that every value is 0: how far
+/// off they are, and the figure.
+fn with_no_planes(samples: &[i32]) -> (u64, u64) {
+    let case = Case {
+        rows: 1,
+        cols: samples.len() as u64,
+        levels: 1,
+        curve: Curve::Cubic,
+        step: 0,
+        samples: samples.to_vec(),
+    };
+    let card = case.write().card;
+    // The samples between anchors are as predicted, so all planes are of layer 0: 1 is 1 in digits and
+    // -2 is 10.
+    let opened = open(&card).unwrap();
+    assert_eq!(opened.planes, [2, 0, 0]);
+    let shown = show_all(&case, &card[..opened.header_length]).unwrap();
+    (furthest(&shown.values, samples), shown.reached.figure)
+}
+
+/// Sheets with a value that is just as far off as the figure says, so no smaller one would hold.
+#[test]
+fn the_figure_is_used_up_by_narrow_sheets_and_others() {
+    // loss(2) = 2. The anchors in columns 0, 2, 4 and 6 are 1, -2, -2 and 1. In seven columns column 3
+    // has all four neighbours: (-1 - 18 - 18 - 1) / 16 rounded down is -3, and 2 is carried to 3.
+    assert_eq!(with_no_planes(&[1, -1, -2, -3, -2, -1, 1]), (3, 3));
+    // In six it has not: (-2 - 2) / 2 = -2, and column 5 is as column 4.
+    assert_eq!(with_no_planes(&[1, -1, -2, -2, -2, -2]), (2, 2));
 }
 
 /// A limit worth asking for: the step, or about the figure of some plan.
@@ -386,6 +431,15 @@ fn plans_by_limit_keep_large_cards_within_it() {
                 check_plan_by_limit(&mut random, &case, &card);
             }
         }
+    }
+}
+
+#[test]
+fn plans_by_limit_at_the_edge_of_narrow_keep_cards_within_it() {
+    let mut random = Random::new(212);
+    for shape in shapes_at_narrow_edge() {
+        let case = Case::of_shape(&mut random, shape, Curve::Cubic);
+        check_plan_by_limit(&mut random, &case, &case.write().card);
     }
 }
 

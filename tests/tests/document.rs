@@ -5,12 +5,12 @@
 mod common;
 
 use common::document::{digits, example, grouped, joined, listed, says, section, shows, sum};
-use common::{bench, files, plan};
+use common::{bench, files, narrow, plan};
 use trace_card_tests::boundary::ANSWER;
 use trace_card_tests::model::digits::{
     digits_of, weight, GREATEST_COEFFICIENT, LEAST_COEFFICIENT, MOST_DIGITS,
 };
-use trace_card_tests::model::figure::{carry, loss};
+use trace_card_tests::model::figure::{carry, is_narrow, layer_carry, loss};
 use trace_card_tests::model::header::print;
 use trace_card_tests::model::planes::{card_order, cells_of_plane, CELL_BYTES};
 use trace_card_tests::model::predict::{cubic, predict};
@@ -219,6 +219,30 @@ fn losses_and_carries() {
 }
 
 #[test]
+fn narrow_layers_carry_unchanged() {
+    let (levels, m) = (MOST_LEVELS, 100);
+    let carried = |(rows, cols), layer| {
+        let shape = Shape { rows, cols, levels };
+        assert_eq!(layer_carry(shape, Curve::Linear, layer, m), m);
+        layer_carry(shape, Curve::Cubic, layer, m)
+    };
+    for s in (0..levels).map(|power| 1 << power) {
+        let ends = [6 * s, 6 * s + 1];
+        // Whatever the length the other way.
+        for other in ends {
+            let across = ends.map(|cols| carried((other, cols), Layer::Across { s }));
+            let down = ends.map(|rows| carried((rows, other), Layer::Down { s }));
+            assert_eq!([across, down], [[m, carry(Curve::Cubic, m)]; 2]);
+        }
+    }
+    let words = "But a *narrow* layer carries M unchanged, whatever the curve: a layer across is \
+                 narrow where C is at most 6s, and a layer down where R is at most 6s. From 3s \
+                 before a point to 3s after it there are 6s + 1 places, so none of its points has \
+                 all four neighbours: each is predicted from two values or from one.";
+    says(&section("9. The figure"), words);
+}
+
+#[test]
 fn the_refusals() {
     let points = grouped(MOST_POINTS);
     let (step, bytes) = (grouped(LARGEST_STEP), grouped(OUTPUT_BYTES));
@@ -293,8 +317,8 @@ fn the_roll() {
     says(&section("14. The three demands"), &words);
 }
 
-/// What a value can come to: each layer carries what stands before it, as the figure does, and adds
-/// a coefficient times the width.
+/// What a value can come to: each layer carries what stands before it, as the figure does where none is
+/// narrow, and adds a coefficient times the width.
 #[test]
 fn the_places_of_the_roll_are_enough() {
     let largest = GREATEST_COEFFICIENT.max(-LEAST_COEFFICIENT) as u64;
@@ -706,6 +730,73 @@ fn the_figures_of_the_cubic_example() {
     ));
 }
 
+#[test]
+fn the_layers_of_the_narrow_example() {
+    let opened = open(&narrow::header()).unwrap();
+    let (shape, step) = (opened.shape(), opened.step);
+    let Shape { rows, cols, levels } = shape;
+    assert_eq!((rows, cols, opened.curve), (7, 5, Curve::Cubic));
+    let [_, Layer::Across { s: first }, _, Layer::Across { s: second }, _] = opened.layers[..]
+    else {
+        panic!("{:?}", opened.layers)
+    };
+    let (narrow, others): (Vec<usize>, Vec<usize>) =
+        (1..=4).partition(|&layer| is_narrow(shape, opened.layers[layer]));
+    assert!(cols <= 6 * second && (6 * second + 1..=6 * first).contains(&rows));
+    let words = format!(
+        "Seven rows of five samples; {levels} levels, cubic, step {step}, so w = {}, and \
+         `planes={}`. The {cols} columns are at most 6s where s = {first} and where s = {second}, \
+         and the {rows} rows are at most {} and more than {}: layers {} are narrow, and layer {} \
+         is not.",
+        width(step),
+        joined(&opened.planes, ","),
+        6 * first,
+        6 * second,
+        listed(&narrow),
+        listed(&others),
+    );
+    says(&example("A narrow one"), &words);
+}
+
+/// What layers 0 to 3 lose is added up as it is, since 1, 2 and 3 are narrow; layer 4 carries it.
+#[test]
+fn the_figures_of_the_narrow_example() {
+    let card = narrow::header();
+    let opened = open(&card).unwrap();
+    // The sum of the losses, what it is carried to, the digits that layer 4 misses, and the figure.
+    let told = |plan: &Plan| {
+        let missing = |layer: usize| opened.planes[layer] - plan[layer];
+        let lost = [0, 1, 2, 3].map(missing);
+        let named = lost.map(|digits| format!("loss({digits})"));
+        let losses = lost.map(loss);
+        let stands: u64 = losses.iter().sum();
+        let sum = format!(
+            "{} = {} = {stands}",
+            joined(&named, " + "),
+            joined(&losses, " + ")
+        );
+        let carried = layer_carry(opened.shape(), opened.curve, opened.layers[4], stands);
+        let figure = figure(&card, plan).unwrap();
+        (sum, stands, carried, missing(4), figure)
+    };
+    let part = example("A narrow one");
+    let (sum, stands, carried, missing, figure) = told(&plan(&[]));
+    let words = format!(
+        "With no planes {sum} stands after layer 3. Layer 4 carries it to {} / 4 rounded up, \
+         {carried}, and adds loss({missing}) = {}: the figure is {figure}.",
+        grouped(5 * stands),
+        loss(missing),
+    );
+    says(&part, &words);
+    let (sum, _, carried, missing, figure) = told(&plan(&[1; 5]));
+    let words = format!(
+        "With one plane of each layer {sum} stands there, which is carried to {carried}, and \
+         loss({missing}) = {}: the figure is {figure}.",
+        loss(missing),
+    );
+    says(&part, &words);
+}
+
 /// Writes one row with the same sample everywhere.
 fn write_row(cols: u64, step: u64, sample: i32) -> Result<u64, Refusal> {
     let count = cols as usize;
@@ -728,8 +819,9 @@ fn the_ends() {
     let (points, step, sample) = (MOST_POINTS + 1, LARGEST_STEP + 1, LARGEST_SAMPLE + 1);
     let refused = |written: Result<u64, Refusal>| written.unwrap_err().number;
     let words = format!(
-        "Digits: {}. Carried cubically, 4 becomes {}, and 5 becomes {}. {} points pass and {} are \
-         refused ({}); step {} passes and {} is refused ({}); a sample of {} is refused ({}).",
+        "Digits: {}. Carried cubically, in layers that are not narrow, 4 becomes {}, and 5 becomes \
+         {}. {} points pass and {} are refused ({}); step {} passes and {} is refused ({}); a \
+         sample of {} is refused ({}).",
         digits(&[-1, 2, 5, 10]),
         carry(Curve::Cubic, 4),
         carry(Curve::Cubic, 5),

@@ -7,7 +7,7 @@ use common::extremes::Sheet;
 use trace_card_tests::fast;
 use trace_card_tests::model::roll::page_bytes;
 use trace_card_tests::model::{self, open, Reached, Refusal};
-use trace_card_tests::random::cases::{Case, LARGE_SIZES};
+use trace_card_tests::random::cases::{shapes_at_narrow_edge, Case, CURVES, LARGE_SIZES};
 use trace_card_tests::random::Random;
 
 type Roll = fn(&[u8], &mut [i32], &mut [i64], &mut [u8]) -> Result<Reached, Refusal>;
@@ -127,5 +127,11 @@ fn as_the_model() {
     for (rows, cols) in LARGE_SIZES {
         let case = Case::of_size(&mut random, rows, cols);
         check(&mut random, &case);
+    }
+    for shape in shapes_at_narrow_edge() {
+        for curve in CURVES {
+            let case = Case::of_shape(&mut random, shape, curve);
+            check(&mut random, &case);
+        }
     }
 }

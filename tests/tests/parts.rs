@@ -4,11 +4,11 @@ mod common;
 
 use common::{layer_of, layer_places, loss_by_hand, planes_on_card};
 use trace_card_tests::model::digits::{digits_of, weight};
-use trace_card_tests::model::figure::{carry, loss};
-use trace_card_tests::model::predict::{cubic, linear};
+use trace_card_tests::model::figure::{carry, is_narrow, loss};
+use trace_card_tests::model::predict::{cubic, linear, neighbours};
 use trace_card_tests::model::sheet::Shape;
 use trace_card_tests::model::{open, Curve};
-use trace_card_tests::random::cases::{Case, Written, LARGE_SIZES};
+use trace_card_tests::random::cases::{shapes_at_narrow_edge, Case, Written, LARGE_SIZES};
 use trace_card_tests::random::sheets::KINDS;
 use trace_card_tests::random::Random;
 
@@ -98,6 +98,37 @@ fn divisions_round_down_and_carries_up() {
         let standing = random.below(1 << 40);
         let carried = carry(Curve::Cubic, standing);
         assert!(4 * carried >= 5 * standing && 4 * carried < 5 * standing + 4);
+    }
+}
+
+/// Every layer but that of the anchors, by every point of it.
+fn check_narrow_layers(shape: Shape) {
+    for layer in shape.layers().into_iter().skip(1) {
+        let points = shape.points_of(layer).into_iter();
+        let mut seen = points.map(|point| neighbours(shape, layer, point));
+        let some_has_four = seen.any(|seen| seen.iter().all(Option::is_some));
+        assert_eq!(
+            is_narrow(shape, layer),
+            !some_has_four,
+            "{shape:?} {layer:?}"
+        );
+    }
+}
+
+#[test]
+fn a_layer_is_narrow_where_no_point_has_four_neighbours() {
+    for levels in 1..=6 {
+        for rows in 1..=30 {
+            for cols in 1..=30 {
+                check_narrow_layers(Shape { rows, cols, levels });
+            }
+        }
+        for (rows, cols) in LARGE_SIZES {
+            check_narrow_layers(Shape { rows, cols, levels });
+        }
+    }
+    for shape in shapes_at_narrow_edge() {
+        check_narrow_layers(shape);
     }
 }
 

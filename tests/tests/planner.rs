@@ -269,8 +269,9 @@ fn the_smaller_figure_comes_before_the_order_of_layers() {
 
 #[test]
 fn what_is_left_in_an_early_layer_costs_more_cubically() {
-    // 1 left in layer 0 is carried to 2 and then 3, 1 left in layer 1 to 2.
-    let card = header((3, 3), 1, Curve::Cubic, 0, &[1, 1, 1]);
+    // With s = 1 both 7 columns and 7 rows are more than 6s. So 1 left in layer 0 is carried to 2 and
+    // then 3, 1 left in layer 1 to 2.
+    let card = header((7, 7), 1, Curve::Cubic, 0, &[1, 1, 1]);
     for (first, own) in [([1, 1, 0], 1), ([1, 0, 1], 2), ([0, 1, 1], 3)] {
         assert_eq!(figure(&card, &plan(&first)), Ok(own));
     }
@@ -279,6 +280,34 @@ fn what_is_left_in_an_early_layer_costs_more_cubically() {
     assert_eq!((best.plan, best.cells, best.figure), (plan(&[1]), 1, 3));
     let best = plan_by_limit(&card, 2).unwrap();
     assert_eq!((best.plan, best.cells, best.figure), (plan(&[1, 1]), 2, 1));
+}
+
+#[test]
+fn what_is_left_costs_the_same_in_every_layer_of_a_narrow_sheet() {
+    // With s = 1 both 6 columns and 6 rows are at most 6s, so 1 left in any layer stays 1. Of the plans
+    // of as many cells, the last layers go without.
+    let card = header((6, 6), 1, Curve::Cubic, 0, &[1, 1, 1]);
+    for first in [[1, 1, 0], [1, 0, 1], [0, 1, 1]] {
+        assert_eq!(figure(&card, &plan(&first)), Ok(1));
+    }
+    let best = plan_by_limit(&card, 1).unwrap();
+    assert_eq!((best.plan, best.cells, best.figure), (plan(&[1, 1]), 2, 1));
+    let best = plan_by_limit(&card, 2).unwrap();
+    assert_eq!((best.plan, best.cells, best.figure), (plan(&[1]), 1, 2));
+}
+
+#[test]
+fn columns_make_layers_across_narrow_and_rows_those_down() {
+    // What 1 left in layer 0, 1 or 2 comes to. With 7 columns layer 1 carries 1 to 2; with 7 rows layer
+    // 2 does. With 6 both leave it 1.
+    for (size, left) in [((6, 7), [2, 1, 1]), ((7, 6), [2, 2, 1])] {
+        let card = header(size, 1, Curve::Cubic, 0, &[1, 1, 1]);
+        for (layer, own) in left.into_iter().enumerate() {
+            let mut all_but_one = plan(&[1, 1, 1]);
+            all_but_one[layer] = 0;
+            assert_eq!(figure(&card, &all_but_one), Ok(own), "{size:?}, {layer}");
+        }
+    }
 }
 
 #[test]

@@ -12,7 +12,7 @@ use Rattle.sheet.specs.declared.Curve.{Curve}
 use Rattle.sheet.specs.declared.Curve.the-variants.{Cubic}
 use Rattle.sheet.specs.Limits.{stepMost}
 use Rattle.sheet.specs.Sheet.{layerSize}
-use Rattle.layers.specs.Carry.{carried, standing}
+use Rattle.layers.specs.Carry.{carried, curveOf, standing}
 use Rattle.integers.proofs.Bools.{by, choice}
 use Rattle.layers.proofs.Carry.{carried-up, carried-none, carried-mono, carried-cubic}
 use Rattle.layers.proofs.Range.{limit}
@@ -37,7 +37,7 @@ module _ (sh : Shape) (curve : Curve) (own : ℕ → ℕ) where
       (λ e. standing-empty sh curve own k (eqb-true (layerSize sh k) 0 e) ∙ standing-none k (λ j l. z j (omega arith)))
       (λ e.
       standing-more sh curve own k (eqb-false (layerSize sh k) 0 e)
-      ∙ rw (standing-none k (λ j l. z j (omega arith)), carried-none curve, z k (le-refl (suc k))))
+      ∙ rw (standing-none k (λ j l. z j (omega arith)), carried-none (curveOf sh curve k), z k (le-refl (suc k))))
 
   pub standing-limit : (B k : ℕ) → ((j : ℕ) → j < k → own j ≤ B * (2 * stepMost + 1)) → standing sh curve own k ≤ limit B k
   unfolding standing limit
@@ -46,4 +46,4 @@ module _ (sh : Shape) (curve : Curve) (own : ℕ → ℕ) where
       let i = standing-limit B k (λ j l. h j (omega arith)) in
       choice (λ (n : ℕ). n ≤ carried Cubic (limit B k) + B * (2 * stepMost + 1)) (eqb (layerSize sh k) 0)
       (λ _. omega (arith, carried-up Cubic (limit B k)))
-      (λ _. omega (arith, h k (le-refl (suc k)), carried-cubic curve (standing sh curve own k), carried-mono Cubic (standing sh curve own k) (limit B k) i))
+      (λ _. omega (arith, h k (le-refl (suc k)), carried-cubic (curveOf sh curve k) (standing sh curve own k), carried-mono Cubic (standing sh curve own k) (limit B k) i))

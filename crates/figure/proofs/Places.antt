@@ -1,19 +1,19 @@
--- What stands, place by place: over all the places for layers it comes to what stands after the card's, since a layer without points carries what stands and has no planes to lose.
+-- What stands, place by place: over all the places for layers it comes to what stands after the card's. An empty layer is narrow and one past the last goes by the linear curve: both carry what stands unchanged, and neither has planes to lose.
 use mathlib.Core.Path.{_≡_, refl, sym, ap, _∙_}
-use Prim.Native.Nat.{ℕ, zero, suc, _+_, _-_, _^_, _≤_}
+use Prim.Native.Nat.{ℕ, zero, suc, _+_, _-_, _^_, _<_, _≤_}
 use native.Mathlib.Nat.{le-refl}
 use native.Mathlib.Decide.{decLt, ℕ-discrete}
 use native.Mathlib.Omega.{arith}
-use borrow.Author.Tests.{ne-eqb}
+use borrow.Author.Tests.{lt-ltb, le-ltb}
 use Rattle.digits.proofs.Losses.{loss-none}
+use Rattle.sheet.specs.declared.Curve.the-variants.{Linear}
 use Rattle.sheet.specs.Sheet.{layers, layerSize}
-use Rattle.sheet.specs.Workings.Shapes.{sizeAt}
 use Rattle.layers.specs.Carry as C
 use Rattle.sheet.specs.Limits.{layersMost}
+use Rattle.layers.proofs.Narrow.{empty-narrow}
 use Rattle.layers.proofs.Standing.{standing-empty, standing-more}
 use Rattle.header.specs.declared.Header.{Header}
 use Rattle.header.specs.Header.{planesOf}
-use Rattle.header.proofs.Cells.{size-there, size-past}
 use Rattle.header.proofs.WellFormed.{WellFormed, layers-few, counts-past, counts-empty}
 use Rattle.figure.specs.Figure.{ownLoss, figureOf}
 use Rattle.figure.specs.Workings.{ruleOf, carryOf, chargeOf}
@@ -25,36 +25,41 @@ standing h n zero = 0
 standing h n (suc k) = carryOf h k (standing h n k) + chargeOf h k (n k)
 
 module _ {h : Header} (r : WellFormed h) (n : ℕ → ℕ) where
-  -- a layer without points
-  still : (k : ℕ) → sizeAt (h .shape) k ≡ 0 → planesOf h k ≡ 0 → standing h n (suc k) ≡ standing h n k
-  unfolding standing carryOf ruleOf C.carried chargeOf
-  still k s e =
-      let z : planesOf h k - n k ≡ 0 = omega arith in
-      rw (s, z, loss-none) (omega arith)
+  -- a layer that leaves what stands and has no planes
+  still : (k : ℕ) → ruleOf h k .curve ≡ Linear → planesOf h k ≡ 0 → standing h n (suc k) ≡ standing h n k
+  unfolding standing carryOf C.carried chargeOf
+  still k e none = let z : planesOf h k - n k ≡ 0 = omega arith in rw (e, z, loss-none) (omega arith)
 
-  -- any other
-  moved : (k : ℕ) → (sizeAt (h .shape) k ≡ 0 → ⊥)
-      → standing h n (suc k) ≡ C.carry (h .shape) (h .curve) k (standing h n k) + ownLoss h n k
+  -- a layer of the card
+  moved : (k : ℕ) → k < layers (h .shape) → standing h n (suc k) ≡ C.carry (h .shape) (h .curve) k (standing h n k) + ownLoss h n k
   unfolding standing carryOf ruleOf chargeOf
-  moved k s = rw (ne-eqb (sizeAt (h .shape) k) 0 s)
+  moved k l = rw (r .shape, lt-ltb k (layers (h .shape)) l)
+
+  -- an empty one
+  empty-rule : (k : ℕ) → k < layers (h .shape) → layerSize (h .shape) k ≡ 0 → ruleOf h k .curve ≡ Linear
+  unfolding ruleOf
+  empty-rule k l e = rw (r .shape, lt-ltb k (layers (h .shape)) l, empty-narrow (h .shape) (r .shape) k e)
 
   stands : (k : ℕ) → k ≤ layers (h .shape) → standing h n k ≡ C.standing (h .shape) (h .curve) (ownLoss h n) k
   stands zero l = unfold standing C.standing in refl
   stands (suc k) l =
-      let same = size-there (h .shape) (r .shape) k l in
       let before = stands k (omega arith) in
       elim (ℕ-discrete (layerSize (h .shape) k) 0) [
-        | yes e ↦ still k (same ∙ e) (counts-empty r k (omega (arith, layers-few r)) e) ∙ before ∙ sym (standing-empty (h .shape) (h .curve) (ownLoss h n) k e)
-        | no e ↦ moved k (λ z. e (sym same ∙ z)) ∙ ap (λ (m : ℕ). C.carry (h .shape) (h .curve) k m + ownLoss h n k) before ∙ sym (standing-more (h .shape) (h .curve) (ownLoss h n) k e)
+        | yes e ↦ still k (empty-rule k l e) (counts-empty r k (omega (arith, layers-few r)) e) ∙ before ∙ sym (standing-empty (h .shape) (h .curve) (ownLoss h n) k e)
+        | no e ↦ moved k l ∙ ap (λ (m : ℕ). C.carry (h .shape) (h .curve) k m + ownLoss h n k) before ∙ sym (standing-more (h .shape) (h .curve) (ownLoss h n) k e)
       ]
 
   -- past the last layer
+  past-rule : (k : ℕ) → layers (h .shape) ≤ k → ruleOf h k .curve ≡ Linear
+  unfolding ruleOf
+  past-rule k l = rw (r .shape, le-ltb k (layers (h .shape)) l)
+
   stays : (k : ℕ) → layers (h .shape) ≤ k → k ≤ layersMost → standing h n k ≡ standing h n (layers (h .shape))
   stays zero l m = let e : 0 ≡ layers (h .shape) = omega arith in ap (standing h n) e
   stays (suc k) l m =
       elim (decLt k (layers (h .shape))) [
         | yes i ↦ let e : suc k ≡ layers (h .shape) = omega arith in ap (standing h n) e
-        | no i ↦ still k (size-past (h .shape) (r .shape) k (omega arith)) (counts-past r k (omega arith) m) ∙ stays k (omega arith) (omega arith)
+        | no i ↦ still k (past-rule k (omega arith)) (counts-past r k (omega arith) m) ∙ stays k (omega arith) (omega arith)
       ]
 
   all-stands : standing h n layersMost ≡ C.standing (h .shape) (h .curve) (ownLoss h n) (layers (h .shape))

@@ -1,9 +1,9 @@
 -- A layer by itself, which planning asks for, and the figure of any header and plan.
 use mathlib.Core.Bool.{cond, _&&_}
 use Prim.Native.Nat.{ℕ, _-_, _^_, min}
-use lib.Dec.{ltb, leb, eqb}
+use lib.Dec.{ltb, leb}
 use Rattle.sheet.specs.declared.Curve.the-variants.{Linear}
-use Rattle.sheet.specs.Workings.Shapes.{sizeAt}
+use Rattle.sheet.specs.Workings.Shapes.{hasLayer}
 use Rattle.layers.specs.Carry as C
 use Rattle.sheet.specs.Limits.{layersMost, stepMost}
 use Rattle.header.specs.declared.Header.{Header}
@@ -20,9 +20,10 @@ use Rattle.figure.specs.Bounding.{Bounding, notBounded, boundedBy}
 unfoldable pub boundOf : Header → Plan → Bounding
 boundOf h plan = cond (wellFormed h) (boundedBy h (loads plan) (firstOver (planesOf h) (loads plan))) (notBounded (refusal 3 0 0))
 
--- the rule by which layer k of a header carries: an empty layer, and one that is not there, changes nothing, as the linear curve does
+-- the rule by which layer k of a header carries: its `curveOf`, and for a layer that is not there the linear curve, so that M stays M. An empty layer needs no
+-- case of its own, since it is narrow
 unfoldable pub ruleOf : Header → ℕ → Rule
-ruleOf h k = record { curve = cond (eqb (sizeAt (h .shape) k) 0) Linear (h .curve) }
+ruleOf h k = record { curve = cond (hasLayer (h .shape) k) (C.curveOf (h .shape) (h .curve) k) Linear }
 
 -- what layer k carries M to: as its rule does
 unfoldable pub carryOf : Header → ℕ → ℕ → ℕ

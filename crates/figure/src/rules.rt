@@ -1,21 +1,39 @@
 // The rules of a layer: how it carries what stands before it, and what it adds of its own.
 ghost use mathlib.Core.Path.{_≡_};
+ghost use Rattle.sheet.specs.Sheet as S;
 ghost use Rattle.figure.specs.Workings as W;
 use crate::Rule;
 use header::Header;
 use header::MOST_PLACES;
 use sheet::Curve;
+use sheet::Direction;
 use sheet::MOST_LAYERS;
 use sheet::MOST_STEP;
+use sheet::Shape;
 
 // The largest number that the cubic curve carries to one that fits.
 const MOST_CARRIED: u64 = u64::MAX / 5 * 4;
 
-// The rule by which a layer carries: an empty layer, and one that is not there, changes nothing, as the linear curve does.
+// How many points stand on a line of this direction; an anchor looks along none.
+fn along(shape: Shape, direction: Direction) -> usize
+    ensures { λ r. ⌜ r ≡ S.along shape direction ⌝ }
+{
+    match direction {
+        Direction::Anchor => 0,
+        Direction::Across => shape.cols,
+        Direction::Down => shape.rows,
+        Direction::Between => shape.depth,
+    }
+}
+
+// The rule by which a layer carries: the linear curve's, so that M stays M, where it is narrow (every empty one is) or not there, and otherwise the card's.
 pub fn rule_of(header: Header, layer: usize) -> Rule
     ensures { λ r. ⌜ r ≡ W.ruleOf header layer ⌝ }
 {
-    if sheet::layer_size(header.shape, layer) == 0 {
+    let shape = header.shape;
+    let g = sheet::grid_of(shape, layer);
+    let direction = g.direction;
+    if along(shape, direction) <= 6 * g.spacing {
         return Rule {
             curve: Curve::Linear,
         };

@@ -8,12 +8,13 @@ use Rattle.sheet.specs.Lists.{tabulate, count, total}
 use Rattle.sheet.specs.Sheet.{spacing, inLayer, layerSize, placeIn, directions}
 use Rattle.layers.specs.Prediction.{linear, line, predictedAt, width, coefficientOf, rebuiltFrom}
 use Rattle.layers.specs.Layering.{lastIn, pointBy, layerBy, valuesBy, alongside, rebuilt, written, coefs}
-use Rattle.layers.specs.Carry.{carried, standing}
+use Rattle.layers.specs.Carry.{carried, narrow, standing}
 use Rattle.layers.proofs.Worked.{cubic-down, carried-twice}
 use Rattle.header.specs.Header.{planeCells, cellsOf, asciiFrom}
 use Rattle.header.specs.Plan.{firstOver}
 use Rattle.order.specs.CardOrder.{cellsBefore, isWhole, whole}
 use Rattle.figure.specs.Figure.{figureOf}
+use Rattle.figure.specs.Bounding.{bounding}
 use Rattle.packing.specs.Planes.{allBelow}
 use Rattle.loading.specs.InBytes.{bitAt, clean, hasOne, fineBits, fine, badSlot, firstBad, coefRead, coefsRead}
 use Rattle.text.specs.Decimal.{digitsIn, decimal, signed}
@@ -30,7 +31,7 @@ unfolding
     firstOver firstFrom whole isWhole cellsBefore firstBad badSlot fine fineBits clean hasOne bitAt allBelow coefsRead coefRead value lastIn placeIn
     bestByLimit bestByCells bestOf better winsTie plansOf listsUpTo eachUpTo withUpTo
     pageText figureLine valueLines valueLine rightAligned signed decimal digitsIn
-    figureOf standing carried loss cellsOf total planeCells ceilDiv layerSize count inLayer directions spacing asciiFrom
+    bounding figureOf standing carried narrow loss cellsOf total planeCells ceilDiv layerSize count inLayer directions spacing asciiFrom
 bench =
     record {
       written = C.written;
@@ -47,6 +48,8 @@ bench =
       limit1 = C.by-limit 1;
       limit0 = C.by-limit 0;
       cells5 = C.by-cells 5;
+      narrowNone = rw (openings .narrow) refl;
+      narrowOne = rw (openings .narrow) refl;
       minusOne = record { count = E.minus-one .count; digits = E.minus-one .digits; worth = E.minus-one .makes };
       two = record { count = E.two .count; digits = E.two .digits; worth = E.two .makes };
       five = record { count = E.five .count; digits = E.five .digits; worth = E.five .makes };

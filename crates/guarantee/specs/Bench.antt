@@ -1,4 +1,5 @@
--- Worked examples (docs/CARD.md, "Worked examples"), proved: the bench card; of the others some digits, one cubic prediction and the carries.
+-- Worked examples (docs/CARD.md, "Worked examples"), proved: the bench card; of the others some digits, one cubic prediction, the carries and the
+-- figures of a card with narrow layers.
 use mathlib.Core.List.{List, [], _∷_, _++_}
 use mathlib.Core.Path.{_≡_}
 use Prim.Native.Nat.{ℕ, _-_, _≤_}
@@ -18,6 +19,7 @@ use Rattle.header.specs.Opening.{opening}
 use Rattle.card.specs.Writing.{writing, outputLeast}
 use Rattle.card.specs.Reading.{showing}
 use Rattle.card.specs.Reading as R
+use Rattle.figure.specs.Bounding.{Bounding, bounding}
 use Rattle.planner.specs.Planning.{Planning, byLimit, byCells, cellsIn, figureIn}
 use Rattle.planner.specs.Planning as N
 use Rattle.roll.specs.Rolling.{rolling}
@@ -54,6 +56,18 @@ threeLayers a b c = record { planes = a ∷ b ∷ c ∷ replicate (layersMost - 
 pub record Five (qs vs : List ℤ) : Type 0 where
   pub coefficients : length qs ≡ 5
   pub values : length vs ≡ 5
+
+-- a header of seven rows and five columns, 2 levels, cubic, step 0: layers 1, 2 and 3 are narrow, and layer 4 is not
+abbrev pub narrowText : List ℕ
+narrowText = ascii "rows=7\ncols=5\nlevels=2\ncurve=cubic\nstep=0\nplanes=9,4,7,2,4\ncells=26\n"
+
+-- the plan that loads n planes of each of its layers
+abbrev pub ofEach : ℕ → Plan
+ofEach n = record { planes = replicate 5 n ++ replicate (layersMost - 5) 0 }
+
+-- what the figure as a call answers
+abbrev pub bounded : ℕ → Bounding
+bounded figure = record { refused = refusal 0 0 0; figure = figure }
 
 -- what a planner finds
 abbrev pub answer : Plan → ℕ → ℕ → Planning
@@ -102,11 +116,14 @@ pub record Bench : Type 0 where
   pub limit1 : byLimit card 1 ≡ answer (threeLayers 5 1 0) 6 1
   pub limit0 : byLimit card 0 ≡ N.notPlanned (refusal 10 0 0)
   pub cells5 : byCells card 5 ≡ answer (threeLayers 5 0 0) 5 4
+  -- the figures of the narrow card, with no planes and with one of each layer
+  pub narrowNone : bounding narrowText (ofEach 0) ≡ bounded 558
+  pub narrowOne : bounding narrowText (ofEach 1) ≡ bounded 278
   -- digits
   pub minusOne : Spelt (negsuc 0) (1 ∷ 1 ∷ [])
   pub two : Spelt (pos 2) (0 ∷ 1 ∷ 1 ∷ [])
   pub five : Spelt (pos 5) (1 ∷ 0 ∷ 1 ∷ [])
   pub ten : Spelt (pos 10) (0 ∷ 1 ∷ 1 ∷ 1 ∷ 1 ∷ [])
-  -- the cubic of 0, -1, 0 and 0 is -1; carried cubically, 4 becomes 5, and 5 becomes 7
+  -- the cubic of 0, -1, 0 and 0 is -1; carried cubically, in layers that are not narrow, 4 becomes 5, and 5 becomes 7
   pub rounding : cubic (pos 0) (negsuc 0) (pos 0) (pos 0) ≡ negsuc 0
   pub carrying : (carried Cubic 4 ≡ 5) × (carried Cubic 5 ≡ 7)

@@ -31,10 +31,6 @@ module _ (sh : Shape) (ok : accepted sh ≡ true) (k : ℕ) where
   unfolding sizeAt
   size-there h = simp (ok, lt-ltb k (layers sh) h)
 
-  pub size-past : layers sh ≤ k → sizeAt sh k ≡ 0
-  unfolding sizeAt
-  size-past h = simp (ok, le-ltb k (layers sh) h)
-
   pub cells-there : k < layers sh → cellsAt sh k ≡ planeCells sh k
   unfolding cellsAt
   cells-there h = simp (ok, lt-ltb k (layers sh) h)

@@ -18,7 +18,7 @@ use Rattle.sheet.specs.Sheet.{accepted, layers}
 use Rattle.layers.specs.Prediction.{linear, cubic}
 use Rattle.layers.specs.Layering.{layering}
 use Rattle.layers.proofs.Proper.{Carries}
-use Rattle.layers.specs.Carry.{carried, carry}
+use Rattle.layers.specs.Carry.{carried, curveOf, carry}
 use Rattle.layers.proofs.Ends.{Between, lowCarried, highCarried}
 use Rattle.layers.proofs.Point.{linear-near, cubic-near}
 use Rattle.layers.proofs.SheetLaw.{Rule, sheet-carries}
@@ -128,13 +128,16 @@ symmetric Cubic m =
 
 -- ---- so a sheet's layers carry an error, and two bounds that hold it
 module _ (sh : Shape) (ok : accepted sh ≡ true) (curve : Curve) (k : ℕ) (hk : k < layers sh) where
+  abbrev layerCurve : Curve
+  layerCurve = curveOf sh curve k
+
   pub sheet-near : (m : ℕ) → Carries (layering sh curve) k (Near m) (Near (carry sh curve k m))
-  sheet-near m = sheet-carries sh ok curve (Near m) (Near (carried curve m)) k (near-rule curve m) (λ z. near-refl _ _) hk
+  sheet-near m = sheet-carries sh ok curve (Near m) (Near (carried layerCurve m)) k (near-rule layerCurve m) (λ z. near-refl _ _) hk
 
   -- at the anchors, where nothing stands before, the bounds have to hold 0
-  pub sheet-between : (l h : ℤ) → (k ≡ 0 → Between (lowCarried curve l h) (highCarried curve l h) (pos 0) (pos 0))
-      → Carries (layering sh curve) k (Between l h) (Between (lowCarried curve l h) (highCarried curve l h))
-  sheet-between l h none = sheet-carries sh ok curve (Between l h) (Between (lowCarried curve l h) (highCarried curve l h)) k (between-rule curve l h) none hk
+  pub sheet-between : (l h : ℤ) → (k ≡ 0 → Between (lowCarried layerCurve l h) (highCarried layerCurve l h) (pos 0) (pos 0))
+      → Carries (layering sh curve) k (Between l h) (Between (lowCarried layerCurve l h) (highCarried layerCurve l h))
+  sheet-between l h none = sheet-carries sh ok curve (Between l h) (Between (lowCarried layerCurve l h) (highCarried layerCurve l h)) k (between-rule layerCurve l h) none hk
 
   pub sheet-within : (m : ℕ) → Carries (layering sh curve) k (λ a _. Within m a) (λ a _. Within (carry sh curve k m) a)
-  sheet-within m = sheet-carries sh ok curve (λ a _. Within m a) (λ a _. Within (carried curve m) a) k (within-rule curve m) (λ z. record { size = omega arith }) hk
+  sheet-within m = sheet-carries sh ok curve (λ a _. Within m a) (λ a _. Within (carried layerCurve m) a) k (within-rule layerCurve m) (λ z. record { size = omega arith }) hk

@@ -1,5 +1,6 @@
 pub mod Point
 pub mod Members
+pub mod Narrow
 pub mod Runs
 pub mod Law
 pub mod SheetLaw

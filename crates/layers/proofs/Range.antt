@@ -23,7 +23,7 @@ use Rattle.sheet.specs.Lists.{at}
 use Rattle.sheet.specs.Sheet.{accepted, points, place, layers, has, inLayer, direction, spacing}
 use Rattle.layers.specs.Prediction.{width, rebuiltFrom, predicted, predictedAt}
 use Rattle.layers.specs.Layering.{layering, valuesBy, blank, reads, writes, rebuilt, coefs}
-use Rattle.layers.specs.Carry.{carried, carry}
+use Rattle.layers.specs.Carry.{carried, curveOf, carry}
 use Rattle.layers.specs.Workings.Loops.{writtenMost, predictedMost, valueMost, Below, Samples}
 use Rattle.sheet.proofs.Rises.{rises}
 use Rattle.sheet.proofs.Accepting.{accepted-yes, layers-few}
@@ -61,11 +61,11 @@ module _ {sh : Shape} {k z r c : ℕ} (here : Spot sh k z r c) (curve : Curve) (
 
   -- from values written
   pub predicted-near : Below writtenMost sh curve k vs → Within predictedMost (predicted sh curve (direction sh k) (spacing sh k) vs z r c)
-  predicted-near low = within-more (written-carried curve) (predicted-within writtenMost low)
+  predicted-near low = within-more (written-carried (curveOf sh curve k)) (predicted-within writtenMost low)
 
   -- from any values
   pub predicted-low : Below valueMost sh curve k vs → Within (2 * valueMost) (predicted sh curve (direction sh k) (spacing sh k) vs z r c)
-  predicted-low low = within-more (value-carried curve) (predicted-within valueMost low)
+  predicted-low low = within-more (value-carried (curveOf sh curve k)) (predicted-within valueMost low)
 
 -- ---- samples that are accepted
 module _ {sh : Shape} {e : ℕ} {xs : List ℤ} (ok : Samples sh e xs) (curve : Curve) where
@@ -81,7 +81,7 @@ module _ {sh : Shape} {e : ℕ} {xs : List ℤ} (ok : Samples sh e xs) (curve : 
       → Within predictedMost (predictedAt sh curve k (valuesBy (layering sh curve) (writes e xs) vs k) p)
   predicted-small vs l k hk p hp m =
       let w = valuesBy (layering sh curve) (writes e xs) vs k in
-      within-more (written-carried curve) (sheet-within sh (ok .shape) curve k hk writtenMost w w (stage-small vs l k (omega arith)) p hp m)
+      within-more (written-carried (curveOf sh curve k)) (sheet-within sh (ok .shape) curve k hk writtenMost w w (stage-small vs l k (omega arith)) p hp m)
 
   -- a coefficient is no larger than the distance from the prediction to the sample
   pub coefs-small : (p : ℕ) → p < points sh → Within 2441215 (at (coefs (layering sh curve) e xs) p)
@@ -151,7 +151,7 @@ module _ (sh : Shape) (ok : accepted sh ≡ true) (curve : Curve) (e : ℕ) (ste
   stage-limit B small vs l =
       stage-rel (layering sh curve) (sheet-proper sh ok curve) e (λ k a b. Within (limit B k) a) (λ k a b. Within (carried Cubic (limit B k)) a) (λ k a b. Within B a)
       qs qs
-      (λ k hk. sheet-carries sh ok curve (λ a _. Within (limit B k) a) (λ a _. Within (carried Cubic (limit B k)) a) k (size-rule curve (limit B k)) (λ z. record { size = omega arith }) hk)
+      (λ k hk. sheet-carries sh ok curve (λ a _. Within (limit B k) a) (λ a _. Within (carried Cubic (limit B k)) a) k (size-rule (curveOf sh curve k) (limit B k)) (λ z. record { size = omega arith }) hk)
       (λ k a b hk r. within-more (limit-rises B k) r)
       (λ k p y y′ q q′ hk hp m a b. within-more (sum B k) (near-within (subst (Near _ (rebuiltFrom y q e)) (zero-rebuilt e) (rebuilt-carry e (within-near a) (within-near b)))))
       (λ k p hk hp m. small p hp)

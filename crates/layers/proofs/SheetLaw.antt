@@ -1,27 +1,28 @@
 -- A sheet's layers are proper, and whatever the prediction rule makes of a relation between values, a layer does: a point looks at points
 -- of layers before its own, one, two or four of them along its line.
 --     Rule              what the rule makes of a relation R between values: R′ between predictions
---     sheet-carries     so does a layer of a sheet
+--     sheet-carries     so does a layer of a sheet, by the curve that it carries by
 --     sheet-proper      a sheet's layers are proper
 --     exactly-one       so every point stands in exactly one of them
 use mathlib.Core.Path.{_≡_, refl, sym, ap, _∙_}
-use mathlib.Core.Bool.{Bool, true, false, cond, _&&_, _||_, true≢false, false≢true}
+use mathlib.Core.Bool.{Bool, true, false, cond, _&&_, _||_, true≢false}
 use mathlib.Core.List.{List}
 use Prim.Native.Nat.{ℕ, zero, suc, _+_, _-_, _*_, _/_, _%_, _<_, _≤_}
 use native.Mathlib.Omega.{arith}
 use lib.Arith.{digits-div, digits-mod}
-use lib.Dec.{leb, ltb, eqb}
+use lib.Dec.{ltb, eqb}
 use lib.IntN.{ℤ, pos}
-use borrow.Author.Tests.{ltb-true, leb-true, eqb-true}
+use borrow.Author.Tests.{ltb-true, eqb-true}
 use Rattle.sheet.specs.declared.Shape.{Shape}
 use Rattle.sheet.specs.declared.Curve.{Curve}
-use Rattle.sheet.specs.declared.Curve.the-variants.{Linear, Cubic}
+use Rattle.sheet.specs.declared.Curve.the-variants.{Cubic}
 use Rattle.sheet.specs.declared.Direction.{Direction}
 use Rattle.sheet.specs.declared.Direction.the-variants.{Anchor, Across, Down, Between}
 use Rattle.sheet.specs.Lists.{at}
-use Rattle.sheet.specs.Sheet.{accepted, points, place, directions, layers, member, direction, spacing, has, inLayer}
+use Rattle.sheet.specs.Sheet.{accepted, points, place, directions, layers, member, direction, spacing, along, has, inLayer}
 use Rattle.layers.specs.Prediction.{linear, cubic, on, usesFour, line, predicted, predictedAt}
 use Rattle.layers.specs.Layering.{layering}
+use Rattle.layers.specs.Carry.{curveOf}
 use Rattle.layers.proofs.Proper.{Proper, Carries}
 use Rattle.layers.specs.Workings.Loops as W
 use Rattle.sheet.proofs.Accepting.{accepted-yes}
@@ -31,17 +32,13 @@ use Rattle.sheet.proofs.Earlier.{mult, odd, Looks}
 use Rattle.sheet.proofs.Cover.{known, all-known, fresh, looks-known}
 use Rattle.sheet.proofs.Fits.{place-in, on-row, on-column, on-depth, sheet-of, row-in, col-in, spacing-some}
 use Rattle.layers.proofs.Members.{layer-of, only-one}
+use Rattle.layers.proofs.Narrow.{uses-four, four-cubic}
 
 -- what the prediction rule makes of a relation: of one value, of two, and of four where the curve takes four
 pub record Rule (curve : Curve) (R R′ : ℤ → ℤ → Type 0) : Type 0 where
   pub one : (b b′ : ℤ) → R b b′ → R′ b b′
   pub two : (b c b′ c′ : ℤ) → R b b′ → R c c′ → R′ (linear b c) (linear b′ c′)
   pub four : curve ≡ Cubic → (a b c d a′ b′ c′ d′ : ℤ) → R a a′ → R b b′ → R c c′ → R d d′ → R′ (cubic a b c d) (cubic a′ b′ c′ d′)
-
-pub uses-four : (curve : Curve) (n t s : ℕ) → usesFour curve n t s ≡ true → (curve ≡ Cubic) × (3 * s ≤ t) × (t + 3 * s < n)
-uses-four Linear n t s e = absurd (false≢true e)
-uses-four Cubic n t s e =
-    (refl, leb-true (3 * s) t (and-left (leb (3 * s) t) (ltb (t + 3 * s) n) e), ltb-true (t + 3 * s) n (and-right (leb (3 * s) t) (ltb (t + 3 * s) n) e))
 
 -- a point of a layer stands at an odd multiple of s on its line
 module _ (s z r c : ℕ) where
@@ -54,39 +51,40 @@ module _ (s z r c : ℕ) where
   pub between-odd : member Between s z r c ≡ true → z % (2 * s) ≡ s
   between-odd m = eqb-true _ _ (and-left (odd s z) (mult s r) (and-left (odd s z && mult s r) (mult s c) m))
 
-module _ (curve : Curve) (R R′ : ℤ → ℤ → Type 0) (rule : Rule curve R R′) (l l′ : List ℤ) where
+-- by the curve that a layer carries by, which is cubic wherever four neighbours are taken
+module _ (curve layerCurve : Curve) (R R′ : ℤ → ℤ → Type 0) (rule : Rule layerCurve R R′) (l l′ : List ℤ) where
   -- two lists that stand in R at the even multiples of s along a line have predictions in R′ at an odd one
-  line-rel : (start stride n t s : ℕ) → 0 < s → t % (2 * s) ≡ s → t < n
+  line-rel : (start stride n t s : ℕ) → (usesFour curve n t s ≡ true → layerCurve ≡ Cubic) → 0 < s → t % (2 * s) ≡ s → t < n
       → ((u : ℕ) → u < n → u % (2 * s) ≡ 0 → R (on l start stride u) (on l′ start stride u))
       → R′ (line curve l start stride n t s) (line curve l′ start stride n t s)
   unfolding line
-  line-rel start stride n t s some odd within rel =
+  line-rel start stride n t s at-four some odd within rel =
       let b = rel (t - s) (omega arith) (odd-before s t some odd) in
       cond-rel R′ (usesFour curve n t s)
       (λ e.
       let f = uses-four curve n t s e in
-      let le : 3 * s ≤ t = f .1 in
-      let lt : t + 3 * s < n = f .2 in
-      rule .four (f .0) _ _ _ _ _ _ _ _
+      let le : 3 * s ≤ t = f .0 in
+      let lt : t + 3 * s < n = f .1 in
+      rule .four (at-four e) _ _ _ _ _ _ _ _
       (rel (t - 3 * s) (omega arith) (odd-before-3 s t some odd le)) b
       (rel (t + s) (omega arith) (odd-after s t some odd)) (rel (t + 3 * s) lt (odd-after-3 s t some odd)))
       (λ e. cond-rel R′ (ltb (t + s) n)
       (λ e′. rule .two _ _ _ _ b (rel (t + s) (ltb-true (t + s) n e′) (odd-after s t some odd)))
       (λ e′. rule .one _ _ b))
 
-  predicted-rel : (sh : Shape) (s : ℕ) → 0 < s → (dir : Direction) (z r c : ℕ) → z < sh .depth → r < sh .rows → c < sh .cols → member dir s z r c ≡ true
+  predicted-rel : (sh : Shape) (s : ℕ) → 0 < s → (dir : Direction) → ((t : ℕ) → usesFour curve (along sh dir) t s ≡ true → layerCurve ≡ Cubic) → (z r c : ℕ) → z < sh .depth → r < sh .rows → c < sh .cols → member dir s z r c ≡ true
       → ((z′ r′ c′ : ℕ) → z′ < sh .depth → r′ < sh .rows → c′ < sh .cols → Looks dir s z r c z′ r′ c′ → R (at l (place sh z′ r′ c′)) (at l′ (place sh z′ r′ c′)))
       → (dir ≡ Anchor → R′ (pos 0) (pos 0))
       → R′ (predicted sh curve dir s l z r c) (predicted sh curve dir s l′ z r c)
-  predicted-rel sh s some Anchor z r c hz hr hc m rel none = none refl
-  predicted-rel sh s some Across z r c hz hr hc m rel none =
-      line-rel (place sh z r 0) 1 (sh .cols) c s some (across-odd s z r c m) hc
+  predicted-rel sh s some Anchor at-four z r c hz hr hc m rel none = none refl
+  predicted-rel sh s some Across at-four z r c hz hr hc m rel none =
+      line-rel (place sh z r 0) 1 (sh .cols) c s (at-four c) some (across-odd s z r c m) hc
       (λ u hu even. rw (on-row sh z r u) (rel z r u hz hr hu (refl, refl, even)))
-  predicted-rel sh s some Down z r c hz hr hc m rel none =
-      line-rel (place sh z 0 c) (sh .cols) (sh .rows) r s some (down-odd s z r c m) hr
+  predicted-rel sh s some Down at-four z r c hz hr hc m rel none =
+      line-rel (place sh z 0 c) (sh .cols) (sh .rows) r s (at-four r) some (down-odd s z r c m) hr
       (λ u hu even. rw (on-column sh z c u) (rel z u c hz hu hc (refl, even, refl)))
-  predicted-rel sh s some Between z r c hz hr hc m rel none =
-      line-rel (place sh 0 r c) (sh .rows * sh .cols) (sh .depth) z s some (between-odd s z r c m) hz
+  predicted-rel sh s some Between at-four z r c hz hr hc m rel none =
+      line-rel (place sh 0 r c) (sh .rows * sh .cols) (sh .depth) z s (at-four z) some (between-odd s z r c m) hz
       (λ u hu even. rw (on-depth sh r c u) (rel u r c hu hr hc (even, refl, refl)))
 
 pub known-is : (sh : Shape) (curve : Curve) (k p : ℕ) → W.known (layering sh curve) k p ≡ known sh k (p / sh .cols / sh .rows) (p / sh .cols % sh .rows) (p % sh .cols)
@@ -112,14 +110,14 @@ anchor-first sh k e = by (eqb k 0) (λ t. eqb-true k 0 t) (λ t. let i = (k - 1)
     go false false false q e = let z : _≡_ {A = ℕ} 0 1 = cc in omega arith
 
 module _ (sh : Shape) (ok : accepted sh ≡ true) (curve : Curve) where
-  pub sheet-carries : (R R′ : ℤ → ℤ → Type 0) (k : ℕ) → Rule curve R R′ → (k ≡ 0 → R′ (pos 0) (pos 0)) → k < layers sh → Carries (layering sh curve) k R R′
+  pub sheet-carries : (R R′ : ℤ → ℤ → Type 0) (k : ℕ) → Rule (curveOf sh curve k) R R′ → (k ≡ 0 → R′ (pos 0) (pos 0)) → k < layers sh → Carries (layering sh curve) k R R′
   unfolding predictedAt inLayer
   sheet-carries R R′ k rule none hk vs vs′ rel p hp m =
       let z = p / sh .cols / sh .rows in
       let r = p / sh .cols % sh .rows in
       let c = p % sh .cols in
       let s = accepted-yes sh ok in
-      predicted-rel curve R R′ rule vs vs′ sh (spacing sh k) (spacing-some sh k) (direction sh k) z r c
+      predicted-rel curve (curveOf sh curve k) R R′ rule vs vs′ sh (spacing sh k) (spacing-some sh k) (direction sh k) (four-cubic sh k curve) z r c
       (sheet-of s p hp) (row-in s p hp) (col-in s p hp) m
       (λ z′ r′ c′ hz hr hc lo. rel (place sh z′ r′ c′) (place-in sh hz hr hc) (looks-at sh curve k z r c z′ r′ c′ hk m hz hr hc lo))
       (λ e. none (anchor-first sh k e))

@@ -17,7 +17,7 @@ use Rattle.sheet.specs.Lists.{at}
 use Rattle.sheet.specs.Sheet.{accepted, points, place, layers, spacing, inLayer, layerSize}
 use Rattle.layers.specs.Prediction.{width}
 use Rattle.layers.specs.Layering.{layering, rebuilt, coefs}
-use Rattle.layers.specs.Carry.{carry, standing}
+use Rattle.layers.specs.Carry.{curveOf, carry, standing}
 use Rattle.integers.proofs.Bools.{by}
 use Rattle.sheet.proofs.Accepting.{accepted-yes}
 use Rattle.sheet.proofs.Fits.{place-in}
@@ -42,7 +42,7 @@ module _ (sh : Shape) (curve : Curve) (own : ℕ → ℕ) where
   standing-rises k =
       by (eqb (layerSize sh k) 0)
       (λ e. rw (standing-empty k (eqb-true (layerSize sh k) 0 e)) (le-refl _))
-      (λ e. rw (standing-more k (eqb-false (layerSize sh k) 0 e)) (omega (arith, carried-up curve (standing sh curve own k))))
+      (λ e. rw (standing-more k (eqb-false (layerSize sh k) 0 e)) (omega (arith, carried-up (curveOf sh curve k) (standing sh curve own k))))
 
 -- after layer 0 its own loss × w stands
 first-some : (sh : Shape) → accepted sh ≡ true → layerSize sh 0 ≡ 0 → ⊥
@@ -57,7 +57,7 @@ first-some sh ok z =
 
 pub standing-first : (sh : Shape) → accepted sh ≡ true → (curve : Curve) (own : ℕ → ℕ) → standing sh curve own 1 ≡ own 0
 unfolding standing
-standing-first sh ok curve own = standing-more sh curve own 0 (first-some sh ok) ∙ rw (carried-none curve) (omega arith)
+standing-first sh ok curve own = standing-more sh curve own 0 (first-some sh ok) ∙ rw (carried-none (curveOf sh curve 0)) (omega arith)
 
 module _ (sh : Shape) (ok : accepted sh ≡ true) (curve : Curve) (e : ℕ) (off : ℕ → ℕ) where
   pub sheet-error : (qs qs′ : List ℤ)

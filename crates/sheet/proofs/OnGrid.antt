@@ -14,10 +14,12 @@ use Rattle.sheet.specs.declared.Direction.{Direction}
 use Rattle.sheet.specs.declared.Direction.the-variants.{Anchor, Across, Down, Between}
 use Rattle.sheet.specs.Limits.{levelsMost}
 use Rattle.sheet.specs.Sheet.{accepted, layers, member, direction, spacing, has, inLayer}
+use Rattle.sheet.specs.Workings.Shapes.{hasLayer}
 use Rattle.sheet.specs.Workings.Lines.{gridFor, gridOf, gridAt}
+use Rattle.sheet.proofs.Accepting.{accepted-yes, layer-yes}
 use Rattle.sheet.proofs.Parity.{divided}
 use Rattle.sheet.proofs.Fits.{spacing-some, spacing-small}
-use Rattle.integers.proofs.Bools.{and-both, and-no-left, and-no-right}
+use Rattle.integers.proofs.Bools.{and-both, and-no-left, and-no-right, by}
 
 -- the sheets, rows and columns of a grid
 abbrev pub onSheet : Grid → ℕ → Bool
@@ -66,6 +68,14 @@ layer-named sh k is = ap (λ (g : Grid). g .layer) is ∙ grid-named k (directio
 pub grid-there : (sh : Shape) (k : ℕ) → accepted sh ≡ true → k < layers sh → gridAt sh k ≡ gridOf sh k
 unfolding gridAt
 grid-there sh k ok h = rw (ok, lt-ltb k (layers sh) h)
+
+-- of any layer, there or not, the spacing is small
+pub grid-spacing : (sh : Shape) (k : ℕ) → gridAt sh k .spacing ≤ 2 ^ levelsMost
+unfolding gridAt
+grid-spacing sh k =
+    by (hasLayer sh k)
+    (λ y. rw (y, grid-named k (direction sh k) (spacing sh k) .1) (spacing-small sh k (accepted-yes sh (layer-yes sh k y .0) .shallow)))
+    (λ n. rw n (omega arith))
 
 -- every layer's grid is good
 pub layer-good : (sh : Shape) (k : ℕ) → sh .levels ≤ levelsMost → Good (gridOf sh k)

@@ -54,6 +54,12 @@ impl Grid {
         steps(self.row, self.down, rows) * steps(self.col, self.right, cols)
     }
 
+    /// Of a layer but that of the anchors: no point has neighbours on both sides at 3 times the spacing.
+    pub fn is_narrow(&self, rows: usize, cols: usize) -> bool {
+        let length = if self.across { cols } else { rows };
+        length <= 6 * self.spacing
+    }
+
     /// Every point's place in the sheet, in row order.
     pub fn places(self, rows: usize, cols: usize) -> impl Iterator<Item = usize> {
         (self.row..rows).step_by(self.down).flat_map(move |row| {

@@ -58,27 +58,33 @@ impl Header {
         widths
     }
 
+    /// Does what stands before a layer grow in it? Not in a narrow one, and every empty one is narrow.
+    pub fn grows(&self, layer: usize) -> bool {
+        let grid = layers::Grid::of(self.levels, layer);
+        self.curve == Curve::Cubic && !grid.is_narrow(self.rows, self.cols)
+    }
+
     /// e plus the losses of the missing planes, carried through the layers.
     pub fn figure(&self, plan: &Plan) -> u64 {
         let mut standing = 0;
         for (layer, &loaded) in plan.iter().enumerate().take(self.layers()) {
             let missing = self.planes[layer] - loaded;
-            if self.width(layer) > 0 {
-                standing = self.carry(standing) + self.charge(missing);
-            }
+            standing = carry(self.grows(layer), standing) + self.charge(missing);
         }
         self.step + standing
     }
 
-    pub fn carry(&self, standing: u64) -> u64 {
-        match self.curve {
-            Curve::Linear => standing,
-            Curve::Cubic => (5 * standing).div_ceil(4),
-        }
-    }
-
     pub fn charge(&self, missing: u64) -> u64 {
         (2 << missing) / 3 * (2 * self.step + 1)
+    }
+}
+
+/// What stands before a layer, carried.
+fn carry(grows: bool, standing: u64) -> u64 {
+    if grows {
+        (5 * standing).div_ceil(4)
+    } else {
+        standing
     }
 }
 

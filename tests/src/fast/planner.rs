@@ -1,7 +1,7 @@
 //! Planning by a table: the least that the first k layers can stand at in exactly c cells.
 
 use super::header::open;
-use super::{refused, Header, Plan, LAYERS};
+use super::{carry, refused, Header, Plan, LAYERS};
 use crate::model::{Planned, Refusal};
 
 /// From no cell to 1,012.
@@ -12,34 +12,31 @@ const NONE: u64 = 1 << 60;
 struct Table {
     least: [[u64; ROW]; LAYERS + 1],
     widths: [usize; LAYERS],
+    grows: [bool; LAYERS],
 }
 
 /// What stands after a layer of which so many planes are loaded.
-fn after(header: &Header, empty: bool, layer: usize, loaded: u64, standing: u64) -> u64 {
-    let own = header.charge(header.planes[layer] - loaded);
-    if empty {
-        standing + own
-    } else {
-        header.carry(standing) + own
-    }
+fn after(header: &Header, grows: bool, layer: usize, loaded: u64, standing: u64) -> u64 {
+    carry(grows, standing) + header.charge(header.planes[layer] - loaded)
 }
 
 fn fill(header: &Header) -> Table {
     let mut table = Table {
         least: [[NONE; ROW]; LAYERS + 1],
         widths: header.widths(),
+        grows: std::array::from_fn(|layer| layer < header.layers() && header.grows(layer)),
     };
     table.least[0][0] = 0;
     let mut reach = 0;
     for layer in 0..LAYERS {
-        let width = table.widths[layer];
+        let (width, grows) = (table.widths[layer], table.grows[layer]);
         let (before, after_it) = table.least.split_at_mut(layer + 1);
         let (from, to) = (&before[layer], &mut after_it[0]);
         for loaded in 0..=header.planes[layer] {
             let used = loaded as usize * width;
             let row = to[used..=used + reach].iter_mut();
             for (entry, &standing) in row.zip(&from[..=reach]) {
-                *entry = (*entry).min(after(header, width == 0, layer, loaded, standing));
+                *entry = (*entry).min(after(header, grows, layer, loaded, standing));
             }
         }
         reach += header.planes[layer] as usize * width;
@@ -51,7 +48,7 @@ fn fill(header: &Header) -> Table {
 fn trace(header: &Header, table: &Table, mut cells: usize) -> Plan {
     let mut plan = [0; LAYERS];
     for layer in (0..LAYERS).rev() {
-        let width = table.widths[layer];
+        let (width, grows) = (table.widths[layer], table.grows[layer]);
         let standing = table.least[layer + 1][cells];
         plan[layer] = (0..=header.planes[layer])
             .find(|&loaded| {
@@ -59,7 +56,7 @@ fn trace(header: &Header, table: &Table, mut cells: usize) -> Plan {
                 used <= cells
                     && after(
                         header,
-                        width == 0,
+                        grows,
                         layer,
                         loaded,
                         table.least[layer][cells - used],

@@ -4,6 +4,7 @@ use super::header::{open, Opened};
 use super::plan::{check_plan, Plan};
 use super::predict::Curve;
 use super::refusal::Refusal;
+use super::sheet::{Layer, Shape};
 use super::steps::width;
 
 /// The most that a coefficient is off where so many of its digits count as 0.
@@ -11,11 +12,29 @@ pub fn loss(digits: u64) -> u64 {
     (1_u64 << (digits + 1)) / 3
 }
 
-/// What an error becomes in a layer that is predicted from values so far off.
+/// What an error becomes by a curve in a point that is predicted from values so far off.
 pub fn carry(curve: Curve, standing: u64) -> u64 {
     match curve {
         Curve::Linear => standing,
         Curve::Cubic => (5 * standing).div_ceil(4),
+    }
+}
+
+/// A layer across is narrow by the columns, and one down by the rows.
+pub fn is_narrow(shape: Shape, layer: Layer) -> bool {
+    match layer {
+        Layer::Anchors { .. } => false,
+        Layer::Across { s } => shape.cols <= 6 * s,
+        Layer::Down { s } => shape.rows <= 6 * s,
+    }
+}
+
+/// What an error becomes in a layer of a sheet: a narrow one leaves it, whatever the curve.
+pub fn layer_carry(shape: Shape, curve: Curve, layer: Layer, standing: u64) -> u64 {
+    if is_narrow(shape, layer) {
+        standing
+    } else {
+        carry(curve, standing)
     }
 }
 
@@ -29,7 +48,8 @@ pub fn standing_after(opened: &Opened, layer: usize, standing: u64, missing: u64
     } else if opened.points[layer] == 0 {
         standing
     } else {
-        carry(opened.curve, standing) + own
+        let (shape, curve) = (opened.shape(), opened.curve);
+        layer_carry(shape, curve, opened.layers[layer], standing) + own
     }
 }
 

@@ -4,7 +4,7 @@ use super::digits::MOST_DIGITS;
 use super::planes::{cells_in, CELL_BYTES};
 use super::predict::Curve;
 use super::refusal::{self, Refusal};
-use super::sheet::{Shape, MOST_LEVELS, MOST_POINTS};
+use super::sheet::{Layer, Shape, MOST_LEVELS, MOST_POINTS};
 use super::steps::LARGEST_STEP;
 
 /// What a header says, with what follows from it at once.
@@ -20,6 +20,8 @@ pub struct Opened {
     pub cells: u64,
     /// Bytes of the seven lines with their ends.
     pub header_length: usize,
+    /// The layers, from the shape.
+    pub layers: Vec<Layer>,
     /// Points of each layer, from the shape.
     pub points: Vec<u64>,
 }
@@ -142,7 +144,8 @@ pub fn open(card: &[u8]) -> Result<Opened, Refusal> {
     let step = take_line(&mut rest, 5, |line| {
         keyed_number(line, "step=", LARGEST_STEP)
     })?;
-    let points = Shape { rows, cols, levels }.layer_counts();
+    let shape = Shape { rows, cols, levels };
+    let points = shape.layer_counts();
     let planes = take_line(&mut rest, 6, |line| planes_line(line, &points))?;
     let total = cells_in(&planes, &points);
     let cells = take_line(&mut rest, 7, |line| {
@@ -160,6 +163,7 @@ pub fn open(card: &[u8]) -> Result<Opened, Refusal> {
         planes,
         cells,
         header_length: card.len() - rest.len(),
+        layers: shape.layers(),
         points,
     })
 }

@@ -1,4 +1,4 @@
-//! The model, one file for each idea of docs/CARD.md. All but the roll and the program trace was
+//! The model, one file for each idea of docs/CARD.md. All but the roll, the program trace and what narrow layers carry was
 //! written before that document, from the customer's request; none of it shares code or structure with the proved side.
 
 pub mod digits;

@@ -18,25 +18,33 @@ pub fn linear(b: i64, c: i64) -> i64 {
     (b + c).div_euclid(2)
 }
 
-/// The prediction of a point of a layer from the values that stand in the sheet.
-pub fn predict(values: &[i64], shape: Shape, curve: Curve, layer: Layer, point: Point) -> i64 {
-    // The value so many rows and columns away, if that is still in the sheet.
-    let look = |rows_on: i64, cols_on: i64| -> Option<i64> {
+/// The neighbours a, b, c and d of a point of a layer, those that are in the sheet. An anchor looks
+/// at none.
+pub fn neighbours(shape: Shape, layer: Layer, point: Point) -> [Option<Point>; 4] {
+    // The point so many rows and columns away, if that is still in the sheet.
+    let look = |rows_on: i64, cols_on: i64| -> Option<Point> {
         let row = point.row as i64 + rows_on;
         let col = point.col as i64 + cols_on;
         let inside = row >= 0 && row < shape.rows as i64 && col >= 0 && col < shape.cols as i64;
-        inside.then(|| {
-            values[shape.place(Point {
-                row: row as u64,
-                col: col as u64,
-            })]
+        inside.then_some(Point {
+            row: row as u64,
+            col: col as u64,
         })
     };
-    let [a, b, c, d] = match layer {
-        Layer::Anchors { .. } => return 0,
+    match layer {
+        Layer::Anchors { .. } => [None; 4],
         Layer::Across { s } => [-3, -1, 1, 3].map(|times| look(0, times * s as i64)),
         Layer::Down { s } => [-3, -1, 1, 3].map(|times| look(times * s as i64, 0)),
-    };
+    }
+}
+
+/// The prediction of a point of a layer from the values that stand in the sheet.
+pub fn predict(values: &[i64], shape: Shape, curve: Curve, layer: Layer, point: Point) -> i64 {
+    if let Layer::Anchors { .. } = layer {
+        return 0;
+    }
+    let value = |point: Point| values[shape.place(point)];
+    let [a, b, c, d] = neighbours(shape, layer, point).map(|seen| seen.map(value));
     match (curve, a, b, c, d) {
         (Curve::Cubic, Some(a), Some(b), Some(c), Some(d)) => cubic(a, b, c, d),
         (_, _, Some(b), Some(c), _) => linear(b, c),

@@ -2,6 +2,7 @@
 
 use super::sheets::{sheet, Kind, KINDS};
 use super::Random;
+use crate::model::sheet::{Shape, MOST_LEVELS, MOST_POINTS};
 use crate::model::{self, Curve};
 
 pub const CURVES: [Curve; 2] = [Curve::Linear, Curve::Cubic];
@@ -57,6 +58,34 @@ pub fn small_size(random: &mut Random) -> (u64, u64) {
     }
 }
 
+/// Sizes at which the layers of a spacing are just narrow or just not (docs/CARD.md, "The figure"): by
+/// their columns beside few rows, by their rows beside few columns, and by both where that many points
+/// are accepted. Beside s + 2 rows or columns a layer of the other direction has points too.
+fn sizes_at_narrow_edge(s: u64) -> Vec<(u64, u64)> {
+    let edge = [6 * s, 6 * s + 1];
+    let mut sizes = Vec::new();
+    for long in edge {
+        for few in [1, 2, s + 2] {
+            sizes.extend([(few, long), (long, few)]);
+        }
+        sizes.extend(edge.map(|other| (long, other)));
+    }
+    sizes.retain(|(rows, cols)| rows * cols <= MOST_POINTS);
+    sizes
+}
+
+/// All of these, for every spacing of every number of levels.
+pub fn shapes_at_narrow_edge() -> Vec<Shape> {
+    let mut shapes = Vec::new();
+    for levels in 1..=MOST_LEVELS {
+        for power in 0..levels {
+            let sizes = sizes_at_narrow_edge(1 << power).into_iter();
+            shapes.extend(sizes.map(|(rows, cols)| Shape { rows, cols, levels }));
+        }
+    }
+    shapes
+}
+
 impl Case {
     /// A case of this size with everything else random.
     pub fn of_size(random: &mut Random, rows: u64, cols: u64) -> Case {
@@ -73,6 +102,15 @@ impl Case {
             curve: random.pick(&CURVES),
             step: step(random),
             samples: sheet(random, kind, rows, cols),
+        }
+    }
+
+    /// A case of this shape and curve with everything else random.
+    pub fn of_shape(random: &mut Random, shape: Shape, curve: Curve) -> Case {
+        Case {
+            levels: shape.levels,
+            curve,
+            ..Case::of_size(random, shape.rows, shape.cols)
         }
     }
 

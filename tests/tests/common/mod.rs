@@ -8,6 +8,7 @@ pub mod bench;
 pub mod document;
 pub mod extremes;
 pub mod files;
+pub mod narrow;
 pub mod page;
 
 use trace_card_tests::model::digits::digits_of;
@@ -163,6 +164,15 @@ pub fn loss_by_hand(d: u64) -> u64 {
         .sum()
 }
 
+/// Has a point of the layer all four neighbours? If any has, the one 3 spacings from the edge has: it
+/// is the first with a neighbour 3 spacings before it, and has the most room after it.
+fn has_four_neighbours(opened: &Opened, layer: usize) -> bool {
+    let spacing = 1 << (opened.levels - layer.div_ceil(2) as u64);
+    let length = [opened.rows, opened.cols][layer % 2];
+    let point = 3 * spacing;
+    point + 3 * spacing < length
+}
+
 /// What stands after the first layers, seen from the last of them.
 fn standing(opened: &Opened, sizes: &[usize], plan: &Plan, layer: usize) -> u64 {
     let own = loss_by_hand(opened.planes[layer] - plan[layer]) * (2 * opened.step + 1);
@@ -170,11 +180,13 @@ fn standing(opened: &Opened, sizes: &[usize], plan: &Plan, layer: usize) -> u64 
         return own;
     }
     let before = standing(opened, sizes, plan, layer - 1);
-    match (sizes[layer], opened.curve) {
-        (0, _) => before,
-        (_, Curve::Linear) => before + own,
+    if sizes[layer] == 0 {
+        before
+    } else if opened.curve == Curve::Cubic && has_four_neighbours(opened, layer) {
         // 5M/4 rounded up is M and a quarter of it, the quarter rounded up.
-        (_, Curve::Cubic) => before + before.div_ceil(4) + own,
+        before + before.div_ceil(4) + own
+    } else {
+        before + own
     }
 }
 

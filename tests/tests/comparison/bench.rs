@@ -1,9 +1,9 @@
-//! The bench card and the ends (docs/CARD.md, "Worked examples"), by both.
+//! The bench card, the narrow example and the ends (docs/CARD.md, "Worked examples"), by both.
 
 use super::both::{
     figure, plan_by_cells, plan_by_limit, read, refine, roll, show, write, Slices, B,
 };
-use super::common::{bench, plan, refusal};
+use super::common::{bench, narrow, plan, refusal};
 use trace_card_tests::model::{Curve, Refusal};
 use trace_card_tests::random::cases::Case;
 
@@ -87,6 +87,18 @@ fn its_plans() {
     assert_eq!(plan_by_limit(&card, 0), Err(refusal(10, [0, 0])));
     for (cells, planned) in bench::planned_by_cells() {
         assert_eq!(plan_by_cells(&card, cells), Ok(planned));
+    }
+}
+
+#[test]
+fn the_narrow_example() {
+    let card = narrow::header();
+    for (plan, own) in narrow::figures() {
+        assert_eq!(figure(&card, &plan), Ok(own));
+    }
+    for (limit, planned) in narrow::planned_by_limit() {
+        assert_eq!(plan_by_limit(&card, limit), Ok(planned));
+        assert_eq!(plan_by_cells(&card, planned.cells), Ok(planned));
     }
 }
 

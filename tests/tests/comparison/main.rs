@@ -15,6 +15,7 @@ mod calls;
 mod damage;
 mod hostile;
 mod lengths;
+mod narrow;
 mod planning;
 mod promised;
 mod reading;
