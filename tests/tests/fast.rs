@@ -12,8 +12,8 @@ use trace_card_tests::random::Random;
 
 type Roll = fn(&[u8], &mut [i32], &mut [i64], &mut [u8]) -> Result<Reached, Refusal>;
 
-/// The roll of a card, on a page that is long enough or about as long, and with all else it may be
-/// refused for now and then.
+/// The roll of a card, on a page that is long enough or about as long; sometimes with something else
+/// that it is refused for.
 fn check_roll(random: &mut Random, card: &[u8], points: usize) {
     let needed = page_bytes(points) as i64;
     let page = match random.below(4) {

@@ -15,7 +15,7 @@ use Rattle.sheet.specs.declared.Direction.{Direction}
 use Rattle.sheet.specs.declared.Direction.the-variants.{Anchor, Across, Down, Between}
 use Rattle.sheet.specs.Sheet.{accepted, place, member, direction, spacing, along, inLayer, layerSize}
 use Rattle.layers.specs.Prediction.{allFour, usesFour}
-use Rattle.layers.specs.Carry.{narrow, curveOf}
+use Rattle.layers.specs.Carry.{narrowMost, narrow, curveOf}
 use Rattle.integers.proofs.Bools.{and-left, and-right, and-both, by, cond-no}
 use Rattle.sheet.proofs.Accepting.{Sheet, accepted-yes}
 use Rattle.sheet.proofs.Fits.{place-in, spacing-some}
@@ -35,8 +35,7 @@ module _ (sh : Shape) (k : ℕ) where
   unfolding narrow
   four-wide t e =
       let n = along sh (direction sh k) in
-      let s = spacing sh k in
-      lt-leb n (6 * s) (omega (arith, four-in n t s e))
+      lt-leb n (narrowMost sh k) (omega (arith, four-in n t (spacing sh k) e))
 
   pub four-cubic : (curve : Curve) (t : ℕ) → usesFour curve (along sh (direction sh k)) t (spacing sh k) ≡ true → curveOf sh curve k ≡ Cubic
   four-cubic Linear t e = absurd (false≢true e)
@@ -81,9 +80,9 @@ module _ {sh : Shape} (ok : Sheet sh) (s : ℕ) (some : 0 < s) where
 pub empty-narrow : (sh : Shape) → accepted sh ≡ true → (k : ℕ) → layerSize sh k ≡ 0 → narrow sh k ≡ true
 unfolding narrow inLayer
 empty-narrow sh ok k none =
-    by (leb (along sh (direction sh k)) (6 * spacing sh k)) (λ e. e)
+    by (narrow sh k) (λ e. e)
     (λ e.
-    let f = wide-four (accepted-yes sh ok) (spacing sh k) (spacing-some sh k) (direction sh k) (leb-false _ _ e) in
+    let f = wide-four (accepted-yes sh ok) (spacing sh k) (spacing-some sh k) (direction sh k) (leb-false (along sh (direction sh k)) (narrowMost sh k) e) in
     let y = f .z * sh .rows + f .r in
     absurd (true≢false (sym (rw (digits-div y (f .col), digits-mod y (f .col), digits-div (f .z) (f .row), digits-mod (f .z) (f .row)) (f .here))
     ∙ size-none sh k none (place sh (f .z) (f .r) (f .c)) (place-in sh (f .sheet) (f .row) (f .col)))))

@@ -13,10 +13,14 @@ unfoldable pub carried : Curve → ℕ → ℕ
 carried Linear m = m
 carried Cubic m = ceilDiv (5 * m) 4
 
+-- on 6s points of a line there is no room for neighbours both 3s before a point and 3s after it
+abbrev pub narrowMost : Shape → ℕ → ℕ
+narrowMost sh k = 6 * spacing sh k
+
 -- is layer k narrow? A layer across is narrow where C is at most 6s, and a layer down where R is at most 6s: none of its points then has all four
 -- neighbours, and in any other layer one has (`layers`, proofs/Narrow). Layer 0 counts as narrow: nothing stands before it
 unfoldable pub narrow : Shape → ℕ → Bool
-narrow sh k = leb (along sh (direction sh k)) (6 * spacing sh k)
+narrow sh k = leb (along sh (direction sh k)) (narrowMost sh k)
 
 -- so layer k carries by the linear curve where it is narrow, and otherwise by the card's
 abbrev pub curveOf : Shape → Curve → ℕ → Curve
