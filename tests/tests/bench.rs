@@ -134,14 +134,7 @@ fn cubic_prediction_and_carry() {
 
 #[test]
 fn the_narrow_example() {
-    let card = narrow::header();
-    for (plan, own) in narrow::figures() {
-        assert_eq!(figure(&card, &plan), Ok(own));
-    }
-    for (limit, planned) in narrow::planned_by_limit() {
-        assert_eq!(plan_by_limit(&card, limit), Ok(planned));
-        assert_eq!(plan_by_cells(&card, planned.cells), Ok(planned));
-    }
+    narrow::check(figure, plan_by_limit, plan_by_cells);
 }
 
 #[test]

@@ -58,7 +58,7 @@ module _ (g : List ℤ) (sh : Shape) (curve : Curve) (e : ℕ) (qs vs : List ℤ
   pub record ShownWithin (n : ℕ) (r : Reading) : Type 0 where
     -- showing it is not refused, and no value shown is further from its sample than the figure shown,
     pub gives : Gives sh g (r .figure) r
-    -- which is e and the carried losses of the planes that are missing
+    -- which is e and the carried losses of the planes that are missing (`standing`; since request 3 a narrow layer carries them unchanged)
     pub figure : r .figure ≡ e + standing sh curve (λ k. loss (missing n k) * width e) (layers sh)
 
   -- what the planner answers to the limit E
