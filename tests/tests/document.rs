@@ -818,13 +818,22 @@ fn the_ends() {
     assert!(write_row(MOST_POINTS, LARGEST_STEP, LARGEST_SAMPLE).is_ok());
     let (points, step, sample) = (MOST_POINTS + 1, LARGEST_STEP + 1, LARGEST_SAMPLE + 1);
     let refused = |written: Result<u64, Refusal>| written.unwrap_err().number;
+    // What 4 comes to by the layer across and then the one down of a square sheet with one level.
+    let carried = |size| {
+        let (rows, cols, levels) = (size, size, 1);
+        let shape = Shape { rows, cols, levels };
+        let by = |layer, standing| layer_carry(shape, Curve::Cubic, layer, standing);
+        let across = by(Layer::Across { s: 1 }, 4);
+        (across, by(Layer::Down { s: 1 }, across))
+    };
+    let (across, down) = carried(7);
+    assert_eq!(carried(6), (4, 4));
     let words = format!(
-        "Digits: {}. Carried cubically, in layers that are not narrow, 4 becomes {}, and 5 becomes \
-         {}. {} points pass and {} are refused ({}); step {} passes and {} is refused ({}); a \
-         sample of {} is refused ({}).",
+        "Digits: {}. Carried cubically by the layers across and down of a sheet of 7 by 7 with one \
+         level, 4 becomes {across}, then {down}; those of one of 6 by 6 are narrow, and it stays 4. \
+         {} points pass and {} are refused ({}); step {} passes and {} is refused ({}); a sample of \
+         {} is refused ({}).",
         digits(&[-1, 2, 5, 10]),
-        carry(Curve::Cubic, 4),
-        carry(Curve::Cubic, 5),
         grouped(MOST_POINTS),
         grouped(points),
         refused(write_row(points, 0, 0)),

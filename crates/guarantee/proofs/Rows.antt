@@ -9,7 +9,7 @@ use Rattle.sheet.specs.Sheet.{spacing, inLayer, layerSize, placeIn, directions}
 use Rattle.layers.specs.Prediction.{linear, line, predictedAt, width, coefficientOf, rebuiltFrom}
 use Rattle.layers.specs.Layering.{lastIn, pointBy, layerBy, valuesBy, alongside, rebuilt, written, coefs}
 use Rattle.layers.specs.Carry.{carried, narrow, standing}
-use Rattle.layers.proofs.Worked.{cubic-down, carried-twice}
+use Rattle.layers.proofs.Worked.{cubic-down, carried-twice, carried-narrow}
 use Rattle.header.specs.Header.{planeCells, cellsOf, asciiFrom}
 use Rattle.header.specs.Plan.{firstOver}
 use Rattle.order.specs.CardOrder.{cellsBefore, isWhole, whole}
@@ -56,4 +56,5 @@ bench =
       ten = record { count = E.ten .count; digits = E.ten .digits; worth = E.ten .makes };
       rounding = cubic-down;
       carrying = carried-twice;
+      staying = carried-narrow;
     }

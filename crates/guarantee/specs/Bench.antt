@@ -11,7 +11,7 @@ use Rattle.sheet.specs.declared.Curve.the-variants.{Linear, Cubic}
 use Rattle.sheet.specs.Limits.{layersMost}
 use Rattle.sheet.specs.Sheet.{sheetOf}
 use Rattle.layers.specs.Prediction.{cubic}
-use Rattle.layers.specs.Carry.{carried}
+use Rattle.layers.specs.Carry.{carry}
 use Rattle.header.specs.declared.Plan.{Plan}
 use Rattle.header.specs.Refusals.{refusal}
 use Rattle.header.specs.Header.{cellBytes, ascii}
@@ -124,6 +124,8 @@ pub record Bench : Type 0 where
   pub two : Spelt (pos 2) (0 ∷ 1 ∷ 1 ∷ [])
   pub five : Spelt (pos 5) (1 ∷ 0 ∷ 1 ∷ [])
   pub ten : Spelt (pos 10) (0 ∷ 1 ∷ 1 ∷ 1 ∷ 1 ∷ [])
-  -- the cubic of 0, -1, 0 and 0 is -1; carried cubically, in layers that are not narrow, 4 becomes 5, and 5 becomes 7
+  -- the cubic of 0, -1, 0 and 0 is -1
   pub rounding : cubic (pos 0) (negsuc 0) (pos 0) (pos 0) ≡ negsuc 0
-  pub carrying : (carried Cubic 4 ≡ 5) × (carried Cubic 5 ≡ 7)
+  -- carried cubically by the layers across and down of a sheet of 7 by 7 with one level, 4 becomes 5, then 7; those of one of 6 by 6 are narrow, and it stays 4
+  pub carrying : (carry (sheetOf 7 7 1) Cubic 1 4 ≡ 5) × (carry (sheetOf 7 7 1) Cubic 2 5 ≡ 7)
+  pub staying : (carry (sheetOf 6 6 1) Cubic 1 4 ≡ 4) × (carry (sheetOf 6 6 1) Cubic 2 4 ≡ 4)

@@ -6,10 +6,10 @@ use Rattle.integers.specs.Floor.{floorDiv, ceilDiv}
 use Rattle.sheet.specs.declared.Shape.{Shape}
 use Rattle.sheet.specs.declared.Curve.the-variants.{Linear, Cubic}
 use Rattle.sheet.specs.Lists.{tabulate}
-use Rattle.sheet.specs.Sheet.{directions, spacing, inLayer}
+use Rattle.sheet.specs.Sheet.{sheetOf, directions, spacing, inLayer}
 use Rattle.layers.specs.Prediction.{cubic, linear, line, predictedAt, width, coefficientOf, rebuiltFrom}
 use Rattle.layers.specs.Layering.{layering, pointBy, layerBy, valuesBy, alongside, written, coefs}
-use Rattle.layers.specs.Carry.{carried}
+use Rattle.layers.specs.Carry.{carried, narrow, carry}
 
 abbrev pub benchShape : Shape
 benchShape = record { depth = 1; rows = 1; cols = 5; levels = 1 }
@@ -58,7 +58,12 @@ pub cubic-down : cubic (pos 0) (negsuc 0) (pos 0) (pos 0) ≡ negsuc 0
 unfolding cubic floorDiv
 cubic-down = refl
 
--- carried cubically, 4 becomes 5, and 5 becomes 7
-pub carried-twice : (carried Cubic 4 ≡ 5) × (carried Cubic 5 ≡ 7)
-unfolding carried ceilDiv
+-- carried cubically by the layers across and down of a sheet of 7 by 7 with one level, 4 becomes 5, then 7
+pub carried-twice : (carry (sheetOf 7 7 1) Cubic 1 4 ≡ 5) × (carry (sheetOf 7 7 1) Cubic 2 5 ≡ 7)
+unfolding narrow directions spacing carried ceilDiv
 carried-twice = (refl, refl)
+
+-- those of a sheet of 6 by 6 are narrow, and 4 stays 4
+pub carried-narrow : (carry (sheetOf 6 6 1) Cubic 1 4 ≡ 4) × (carry (sheetOf 6 6 1) Cubic 2 4 ≡ 4)
+unfolding narrow directions spacing carried ceilDiv
+carried-narrow = (refl, refl)
