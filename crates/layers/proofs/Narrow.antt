@@ -5,7 +5,6 @@ use mathlib.Core.Bool.{true, false, true≢false, false≢true}
 use Prim.Native.Nat.{ℕ, _+_, _*_, _%_, _<_, _≤_}
 use native.Mathlib.Nat.{zero-mod, add-mul-mod-self-right, mod-eq-of-lt}
 use native.Mathlib.Omega.{arith}
-use lib.Arith.{digits-div, digits-mod}
 use lib.Dec.{leb, ltb}
 use borrow.Author.Tests.{ltb-true, leb-true, lt-leb, le-leb, lt-ltb, eq-eqb, leb-false}
 use Rattle.sheet.specs.declared.Shape.{Shape}
@@ -13,12 +12,12 @@ use Rattle.sheet.specs.declared.Curve.{Curve}
 use Rattle.sheet.specs.declared.Curve.the-variants.{Linear, Cubic}
 use Rattle.sheet.specs.declared.Direction.{Direction}
 use Rattle.sheet.specs.declared.Direction.the-variants.{Anchor, Across, Down, Between}
-use Rattle.sheet.specs.Sheet.{accepted, place, member, direction, spacing, along, inLayer, layerSize}
+use Rattle.sheet.specs.Sheet.{accepted, place, member, direction, spacing, along, layerSize}
 use Rattle.layers.specs.Prediction.{allFour, usesFour}
 use Rattle.layers.specs.Carry.{narrowMost, narrow, curveOf}
 use Rattle.integers.proofs.Bools.{and-left, and-right, and-both, by, cond-no}
 use Rattle.sheet.proofs.Accepting.{Sheet, accepted-yes}
-use Rattle.sheet.proofs.Fits.{place-in, spacing-some}
+use Rattle.sheet.proofs.Fits.{place-in, place-has, spacing-some}
 use Rattle.sheet.proofs.Places.{size-none}
 
 -- ---- where there are four
@@ -78,11 +77,9 @@ module _ {sh : Shape} (ok : Sheet sh) (s : ℕ) (some : 0 < s) where
 
 -- so an empty layer is narrow
 pub empty-narrow : (sh : Shape) → accepted sh ≡ true → (k : ℕ) → layerSize sh k ≡ 0 → narrow sh k ≡ true
-unfolding narrow inLayer
+unfolding narrow
 empty-narrow sh ok k none =
     by (narrow sh k) (λ e. e)
     (λ e.
     let f = wide-four (accepted-yes sh ok) (spacing sh k) (spacing-some sh k) (direction sh k) (leb-false (along sh (direction sh k)) (narrowMost sh k) e) in
-    let y = f .z * sh .rows + f .r in
-    absurd (true≢false (sym (rw (digits-div y (f .col), digits-mod y (f .col), digits-div (f .z) (f .row), digits-mod (f .z) (f .row)) (f .here))
-    ∙ size-none sh k none (place sh (f .z) (f .r) (f .c)) (place-in sh (f .sheet) (f .row) (f .col)))))
+    absurd (true≢false (sym (place-has sh k (f .z) (f .row) (f .col) ∙ f .here) ∙ size-none sh k none (place sh (f .z) (f .r) (f .c)) (place-in sh (f .sheet) (f .row) (f .col)))))

@@ -1,6 +1,6 @@
 -- The ranges of values, predictions and coefficients, stage by stage: a value written is near its sample, a layer carries a size to at most
 -- five quarters of it, and so the sizes rise by a fixed recursion (`limit`) where the coefficients are any.
-use mathlib.Core.Path.{_≡_, sym, subst}
+use mathlib.Core.Path.{_≡_, sym, subst, _∙_}
 use mathlib.Core.Bool.{true}
 use mathlib.Core.List.{List}
 use Prim.Native.Nat.{ℕ, zero, suc, _+_, _*_, _-_, _/_, _%_, _^_, _<_, _≤_}
@@ -20,14 +20,14 @@ use Rattle.sheet.specs.declared.Curve.{Curve}
 use Rattle.sheet.specs.declared.Curve.the-variants.{Linear, Cubic}
 use Rattle.sheet.specs.Limits.{layersMost, stepMost}
 use Rattle.sheet.specs.Lists.{at}
-use Rattle.sheet.specs.Sheet.{accepted, points, place, layers, has, inLayer, direction, spacing}
+use Rattle.sheet.specs.Sheet.{accepted, points, place, layers, inLayer, direction, spacing}
 use Rattle.layers.specs.Prediction.{width, rebuiltFrom, predicted, predictedAt}
 use Rattle.layers.specs.Layering.{layering, valuesBy, blank, reads, writes, rebuilt, coefs}
 use Rattle.layers.specs.Carry.{carried, curveOf, carry}
 use Rattle.layers.specs.Workings.Loops.{writtenMost, predictedMost, valueMost, Below, Samples}
 use Rattle.sheet.proofs.Rises.{rises}
 use Rattle.sheet.proofs.Accepting.{accepted-yes, layers-few}
-use Rattle.sheet.proofs.Fits.{place-in}
+use Rattle.sheet.proofs.Fits.{place-in, place-has}
 use Rattle.layers.proofs.Spots.{Spot}
 use Rattle.layers.proofs.Point.{within-more, rebuilt-carry, coefficient-range}
 use Rattle.layers.proofs.Members.{layer-of}
@@ -53,11 +53,11 @@ module _ {sh : Shape} {k z r c : ℕ} (here : Spot sh k z r c) (curve : Curve) (
       let hc = here .col in
       let hr = here .row in
       rw (digits-div y hc, digits-mod y hc, digits-div z hr, digits-mod z hr) at
-      (go (place sh z r c) (place-in sh (here .sheet) hr hc) (rw (digits-div y hc, digits-mod y hc, digits-div z hr, digits-mod z hr) (here .here)))
+      (go (place sh z r c) (place-in sh (here .sheet) hr hc) (place-has sh k z hr hc ∙ here .here))
     where
-      go : (p : ℕ) → p < points sh → has sh k (p / sh .cols / sh .rows) (p / sh .cols % sh .rows) (p % sh .cols) ≡ true
+      go : (p : ℕ) → p < points sh → inLayer sh k p ≡ true
           → Within (carry sh curve k m) (predicted sh curve (direction sh k) (spacing sh k) vs (p / sh .cols / sh .rows) (p / sh .cols % sh .rows) (p % sh .cols))
-      go p hp i = unfold predictedAt inLayer in (sheet-within sh (here .shape) curve k (here .layer) m vs vs low p hp i)
+      go p hp i = unfold predictedAt in (sheet-within sh (here .shape) curve k (here .layer) m vs vs low p hp i)
 
   -- from values written
   pub predicted-near : Below writtenMost sh curve k vs → Within predictedMost (predicted sh curve (direction sh k) (spacing sh k) vs z r c)

@@ -3,16 +3,22 @@ use mathlib.Core.Path.{_≡_}
 use Prim.Native.Nat.{ℕ, _+_, _*_, _/_, _%_, _^_, _<_, _≤_}
 use native.Mathlib.Nat.{mul-le-mul-right, mul-le-mul-left, mod-lt, div-lt-iff-lt-mul}
 use native.Mathlib.Omega.{arith}
-use lib.Arith.{digits-lt}
+use lib.Arith.{digits-lt, digits-div, digits-mod}
 use lib.Pow.{pow-pos, pow-mono}
 use Rattle.sheet.specs.declared.Shape.{Shape}
 use Rattle.sheet.specs.Limits.{pointsMost, levelsMost}
-use Rattle.sheet.specs.Sheet.{points, place, spacing}
+use Rattle.sheet.specs.Sheet.{points, place, spacing, has, inLayer}
 use Rattle.sheet.proofs.Accepting.{Sheet}
 
 -- ---- points
 pub place-in : (sh : Shape) {z r c : ℕ} → z < sh .depth → r < sh .rows → c < sh .cols → place sh z r c < points sh
 place-in sh hz hr hc = digits-lt (digits-lt hz hr) hc
+
+pub place-has : (sh : Shape) (k z : ℕ) {r c : ℕ} → r < sh .rows → c < sh .cols → inLayer sh k (place sh z r c) ≡ has sh k z r c
+unfolding inLayer
+place-has sh k z {r} hr hc =
+    let y = z * sh .rows + r in
+    rw (digits-div y hc, digits-mod y hc, digits-div z hr, digits-mod z hr)
 
 -- the lines of a point, place by place
 module _ (sh : Shape) where
