@@ -2,17 +2,18 @@
  *
  * Every function returns the refusal's number, 0 where the call is accepted. A slice is a pointer to so many elements, then their number; the pointer
  * has to be valid for them (and not null, even of none), and slices that a call writes to must not overlap others. Coefficients and values have rows x cols elements each, or the call
- * is refused (3). A refused call leaves the caller's coefficients, values, output and page as they were. answer is the call's report, which a refused call
+ * is refused (3). A refused call leaves the caller's coefficients, values, output, page and apart as they were. answer is the call's report, which a refused call
  * fills too, except where answer or plan has a wrong length: then nothing at all is written.
  *
  * answer has 24 numbers: [0] the refusal's number, [1] and [2] its details, [3] the card's length (write) or the plan's cells (planning),
- * [4] the figure, [5] to [17] the plan that was reached, given or found; what a call does not answer is 0, and beside a refusal all but [0] to [2]
- * are 0. Where answer is not 24 long, or plan not 13, a function returns 3 and writes nothing.
+ * [4] the figure, [5] to [17] the plan that was reached, given or found; of a comparison [3] the number of points apart, [4] row and [5] column of the first.
+ * What a call does not answer is 0, and beside a refusal all but [0] to [2] are 0. Where answer is not 24 long, or plan not 13, a function returns 3
+ * and writes nothing.
  *
  * curve is 0 for linear and 1 for cubic; any other number is refusal 2. plan has 13 numbers: the planes loaded from the top of each layer, 0 past
  * the last. Refusals: 1 a size, 2 levels, curve or step, 3 a slice's length, 4 a sample out of range (row, column), 5 the header is cut, 6 a wrong
  * line (which), 7 bytes follow the last cell, 8 a plane that cannot be (layer), 9 a plan that asks too much (place; in refine also the layer), 10 a limit below the
- * step, 11 a coefficient out of range, 12 a page too short.
+ * step, 11 a coefficient out of range, 12 a page too short, 13 the sizes of two cards differ.
  */
 #ifndef TRACE_CARD_H
 #define TRACE_CARD_H
@@ -36,9 +37,9 @@ extern "C" {
 struct trace_card_answer {
     uint64_t refusal;
     uint64_t details[2];
-    uint64_t size; /* of the card in bytes (write) or of the plan in cells (planning) */
-    uint64_t figure;
-    uint64_t plan[TRACE_CARD_ANSWER_LENGTH - 5]; /* the first TRACE_CARD_PLAN_LENGTH are the plan, the rest is 0 */
+    uint64_t size; /* of the card in bytes (write) or of the plan in cells (planning); the points apart (compare) */
+    uint64_t figure; /* row of the first point apart (compare) */
+    uint64_t plan[TRACE_CARD_ANSWER_LENGTH - 5]; /* the first TRACE_CARD_PLAN_LENGTH are the plan, the rest is 0; column of that point first (compare) */
 };
 
 #ifdef __cplusplus
@@ -74,6 +75,15 @@ uint64_t trace_card_show(const uint8_t *card, size_t card_length, int32_t *coeff
  * line is the figure; the others, in row order, are row, column and value in 4, 4 and 16 places, right-aligned. */
 uint64_t trace_card_roll(const uint8_t *card, size_t card_length, int32_t *coefficients, size_t coefficients_length, int64_t *values,
     size_t values_length, uint8_t *page, size_t page_length, uint64_t *answer, size_t answer_length);
+
+/* Compares what two cards show, cut or whole, whatever their levels, curves and steps: each is shown as trace_card_show does, in coefficients and
+ * values of its own. apart has rows x cols bytes: for each point, in row order, 0 where the two values differ by at most the sum of the two figures,
+ * otherwise 1. Where that is 1 and trace_card_write wrote both cards, the two samples at that point differ. Refused for what the first card is, then the
+ * second; then 13 where rows or cols differ; then 3 where apart has another length. */
+uint64_t trace_card_compare(const uint8_t *first, size_t first_length, const uint8_t *second, size_t second_length, int32_t *first_coefficients,
+    size_t first_coefficients_length, int64_t *first_values, size_t first_values_length, int32_t *second_coefficients,
+    size_t second_coefficients_length, int64_t *second_values, size_t second_values_length, uint8_t *apart, size_t apart_length, uint64_t *answer,
+    size_t answer_length);
 
 /* Adds the next plane of a layer to a reading with a plan. */
 uint64_t trace_card_refine(const uint8_t *card, size_t card_length, const uint64_t *plan, size_t plan_length, uint64_t layer,

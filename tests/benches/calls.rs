@@ -1,5 +1,5 @@
-//! Write, show, roll, refine and both plannings beside the same calls in Rust (`fast`), in one run: the best of many, in
-//! microseconds, and the ratio. It stops where the two give different results. The roll stands beside Rust's own
+//! Write, show, roll, compare, refine and both plannings beside the same calls in Rust (`fast`), in one run: the best of
+//! many, in microseconds, and the ratio. It stops where the two give different results. The roll stands beside Rust's own
 //! formatting too.
 //!
 //! `cargo bench --offline`, after `rt staticlib trace_card`.
@@ -9,7 +9,7 @@ use std::time::Instant;
 use trace_card_tests::boundary::{self, ANSWER, PLAN};
 use trace_card_tests::fast;
 use trace_card_tests::model::roll::page_bytes;
-use trace_card_tests::model::{Curve, Planned, Reached};
+use trace_card_tests::model::{Compared, Curve, Planned, Reached};
 use trace_card_tests::random::sheets::{sheet, Kind};
 use trace_card_tests::random::Random;
 
@@ -48,8 +48,11 @@ struct Setting {
 struct Slices {
     coefficients: Vec<i32>,
     values: Vec<i64>,
+    second_coefficients: Vec<i32>,
+    second_values: Vec<i64>,
     output: Vec<u8>,
     page: Vec<u8>,
+    apart: Vec<u8>,
     answer: [u64; ANSWER],
 }
 
@@ -57,8 +60,11 @@ fn slices(points: usize) -> Slices {
     Slices {
         coefficients: vec![0; points],
         values: vec![0; points],
+        second_coefficients: vec![0; points],
+        second_values: vec![0; points],
         output: vec![0; 32_768],
         page: vec![0; page_bytes(points)],
+        apart: vec![0; points],
         answer: [0; ANSWER],
     }
 }
@@ -96,6 +102,36 @@ fn rust_write(setting: &Setting, s: &mut Slices) {
     s.answer[3] = length.expect("an accepted sheet");
 }
 
+fn proved_compare(first: &[u8], second: &[u8], s: &mut Slices) {
+    let refused = boundary::compare(
+        first,
+        second,
+        &mut s.coefficients,
+        &mut s.values,
+        &mut s.second_coefficients,
+        &mut s.second_values,
+        &mut s.apart,
+        &mut s.answer,
+    );
+    assert_eq!(refused, 0);
+}
+
+fn rust_compare(first: &[u8], second: &[u8], s: &mut Slices) {
+    let compared = fast::compare(
+        first,
+        second,
+        &mut s.coefficients,
+        &mut s.values,
+        &mut s.second_coefficients,
+        &mut s.second_values,
+        &mut s.apart,
+    );
+    let Compared { apart, first } = compared.expect("right cards of one size");
+    s.answer = [0; ANSWER];
+    s.answer[3] = apart;
+    s.answer[4..6].copy_from_slice(&first);
+}
+
 /// The roll by Rust's own formatting.
 fn format_roll(card: &[u8], cols: usize, s: &mut Slices) {
     let shown = fast::show(card, &mut s.coefficients, &mut s.values).expect("a right card");
@@ -127,8 +163,11 @@ fn same(ours: &Slices, theirs: &Slices) {
     assert_eq!(ours.answer, theirs.answer);
     assert_eq!(ours.coefficients, theirs.coefficients);
     assert_eq!(ours.values, theirs.values);
+    assert_eq!(ours.second_coefficients, theirs.second_coefficients);
+    assert_eq!(ours.second_values, theirs.second_values);
     assert_eq!(ours.output, theirs.output);
     assert_eq!(ours.page, theirs.page);
+    assert_eq!(ours.apart, theirs.apart);
 }
 
 fn run(setting: &Setting) {
@@ -240,6 +279,31 @@ fn run(setting: &Setting) {
         "roll, writeln!",
         || proved(&mut ours),
         || formatted(&mut theirs),
+    );
+
+    // Beside a card of the same sheet, by the other curve and with another step.
+    let other = Setting {
+        curve: match setting.curve {
+            Curve::Linear => Curve::Cubic,
+            Curve::Cubic => Curve::Linear,
+        },
+        step: setting.step + 5,
+        samples: setting.samples.clone(),
+        ..*setting
+    };
+    proved_write(&other, &mut ours);
+    rust_write(&other, &mut theirs);
+    same(&ours, &theirs);
+    let second = ours.output[..ours.answer[3] as usize].to_vec();
+    // All points agree, so marks that were never made would pass for made ones.
+    ours.apart.fill(2);
+    proved_compare(&card, &second, &mut ours);
+    rust_compare(&card, &second, &mut theirs);
+    same(&ours, &theirs);
+    compare(
+        "compare",
+        || proved_compare(&card, &second, &mut ours),
+        || rust_compare(&card, &second, &mut theirs),
     );
 }
 

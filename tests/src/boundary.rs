@@ -1,7 +1,8 @@
 //! The functions of include/trace_card.h over slices.
 
 /// Numbers in an answer: the refusal and its details, the length or the cells, the figure,
-/// the plan, and some that stay 0.
+/// the plan, and some that stay 0. Behind its details a comparison has the points apart and row and
+/// column of the first.
 pub const ANSWER: usize = 24;
 pub const PLAN: usize = 13;
 
@@ -55,6 +56,24 @@ mod c {
             values_length: usize,
             page: *mut u8,
             page_length: usize,
+            answer: *mut u64,
+            answer_length: usize,
+        ) -> u64;
+        pub fn trace_card_compare(
+            first: *const u8,
+            first_length: usize,
+            second: *const u8,
+            second_length: usize,
+            first_coefficients: *mut i32,
+            first_coefficients_length: usize,
+            first_values: *mut i64,
+            first_values_length: usize,
+            second_coefficients: *mut i32,
+            second_coefficients_length: usize,
+            second_values: *mut i64,
+            second_values_length: usize,
+            apart: *mut u8,
+            apart_length: usize,
             answer: *mut u64,
             answer_length: usize,
         ) -> u64;
@@ -188,6 +207,39 @@ pub fn roll(
             values.len(),
             page.as_mut_ptr(),
             page.len(),
+            answer.as_mut_ptr(),
+            answer.len(),
+        )
+    }
+}
+
+#[allow(clippy::too_many_arguments)]
+pub fn compare(
+    first: &[u8],
+    second: &[u8],
+    first_coefficients: &mut [i32],
+    first_values: &mut [i64],
+    second_coefficients: &mut [i32],
+    second_values: &mut [i64],
+    apart: &mut [u8],
+    answer: &mut [u64],
+) -> u64 {
+    unsafe {
+        c::trace_card_compare(
+            first.as_ptr(),
+            first.len(),
+            second.as_ptr(),
+            second.len(),
+            first_coefficients.as_mut_ptr(),
+            first_coefficients.len(),
+            first_values.as_mut_ptr(),
+            first_values.len(),
+            second_coefficients.as_mut_ptr(),
+            second_coefficients.len(),
+            second_values.as_mut_ptr(),
+            second_values.len(),
+            apart.as_mut_ptr(),
+            apart.len(),
             answer.as_mut_ptr(),
             answer.len(),
         )

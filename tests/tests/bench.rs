@@ -7,7 +7,7 @@ use common::{bench, card_of, header_lines, highest_first, narrow, plan, refusal}
 use trace_card_tests::model::digits::{digits_of, weight};
 use trace_card_tests::model::figure::{carry, loss};
 use trace_card_tests::model::predict::cubic;
-use trace_card_tests::model::program::{shown, trace};
+use trace_card_tests::model::program::{shown, trace, trace_compare};
 use trace_card_tests::model::{
     figure, open, plan_by_cells, plan_by_limit, read, refine, show, write, Curve, Reached, Refusal,
 };
@@ -203,10 +203,44 @@ fn the_programs_print() {
     assert_eq!(trace(&["show"], &card[..63]), ("refused=5\n".into(), 1));
     assert_eq!(trace(&["show"], &card), (shown(&card), 0));
     assert_eq!(trace(&["show", "roll"], &card), (String::new(), 2));
+    for words in [&["compare"][..], &["compare", "one"]] {
+        assert_eq!(trace(words, &card), (String::new(), 2));
+    }
     // A value below 0 has its sign: -1 is 11 in digits; and each row has its line.
     let two_rows = card_of(&header_lines((2, 1), 0, "linear", 0, &[2], 2), &[2, 3]);
     assert_eq!(
         shown(&two_rows),
         "rows=2\ncols=1\nloaded=2\nfigure=0\nrow=1\nrow=-1\n"
     );
+}
+
+#[test]
+fn the_program_prints_comparisons() {
+    let (card, other) = (bench::card(), bench::fine_card());
+    let apart = "apart=1\nfirst=0,4\n00001\n";
+    let agree = "apart=0\nfirst=0,0\n00000\n";
+    assert_eq!(trace_compare(&card, &other), (apart.into(), 0));
+    assert_eq!(trace_compare(&card[..160], &other), (agree.into(), 0));
+    // Each row has its line: the values 1 and -1 beside 0 and 0, then beside 1 and 0.
+    let two_rows = card_of(&header_lines((2, 1), 0, "linear", 0, &[2], 2), &[2, 3]);
+    let zeros = card_of(&header_lines((2, 1), 0, "cubic", 0, &[0], 0), &[]);
+    let one = card_of(&header_lines((2, 1), 0, "cubic", 0, &[1], 1), &[1]);
+    for (second, lines) in [
+        (zeros, "apart=2\nfirst=0,0\n1\n1\n"),
+        (one, "apart=1\nfirst=1,0\n0\n1\n"),
+    ] {
+        assert_eq!(trace_compare(&two_rows, &second), (lines.into(), 0));
+    }
+    // The first card's refusal, then the second's, then 13.
+    let spoilt = card_of(&bench::LINES, &[0; 6]);
+    for (first, second, number) in [
+        (&card[..63], &spoilt[..], 5),
+        (&spoilt, &card[..63], 8),
+        (&card, &card[..63], 5),
+        (&two_rows, &spoilt, 8),
+        (&two_rows, &card, 13),
+    ] {
+        let refused = format!("refused={number}\n");
+        assert_eq!(trace_compare(first, second), (refused, 1));
+    }
 }

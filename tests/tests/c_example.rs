@@ -107,7 +107,7 @@ fn check(name: &str, card: &[u8]) {
 
 #[test]
 fn the_example_cards() {
-    for name in ["bench-160", "bench", "axles-half", "axles"] {
+    for name in ["bench-160", "bench", "bench-fine", "axles-half", "axles"] {
         let name = format!("examples/{name}.card");
         let (status, printed, said) = run(&[&file(&name)]);
         assert_eq!((status, printed, said), expected(&bytes(&name)), "{name}");
@@ -298,6 +298,52 @@ int main(void) {
     let output = Command::new(&program).stdin(card).output().unwrap();
     assert!(output.status.success());
     assert_eq!(String::from_utf8(output.stdout).unwrap(), bench::ROLL);
+}
+
+/// A comparison from C, of the bench card and the finer one; with one mark too few it is refused.
+#[test]
+fn a_comparison_from_c() {
+    let unit = r#"#include "trace_card.h"
+#include <inttypes.h>
+#include <stdio.h>
+static uint8_t first[TRACE_CARD_MOST_BYTES], second[TRACE_CARD_MOST_BYTES];
+static size_t card_in(const char *name, uint8_t *card) {
+    FILE *file = fopen(name, "rb");
+    if (file == NULL)
+        return 0;
+    size_t length = fread(card, 1, TRACE_CARD_MOST_BYTES, file);
+    fclose(file);
+    return length;
+}
+int main(int count, char **names) {
+    int32_t first_coefficients[5], second_coefficients[5];
+    int64_t first_values[5], second_values[5];
+    uint8_t apart[5];
+    uint64_t answer[TRACE_CARD_ANSWER_LENGTH];
+    if (count != 3)
+        return 2;
+    size_t first_length = card_in(names[1], first), second_length = card_in(names[2], second);
+    for (size_t marks = 4; marks <= 5; ++marks) {
+        uint64_t refusal = trace_card_compare(first, first_length, second, second_length, first_coefficients, 5, first_values, 5,
+            second_coefficients, 5, second_values, 5, apart, marks, answer, TRACE_CARD_ANSWER_LENGTH);
+        printf("%" PRIu64 ": %" PRIu64 " apart, the first at %" PRIu64 ",%" PRIu64 "\n", refusal, answer[3], answer[4], answer[5]);
+    }
+    for (size_t at = 0; at < sizeof apart; ++at)
+        printf("%d", apart[at]);
+    return 0;
+}
+"#;
+    let (source, program) = (temporary("compare.c"), temporary("compare"));
+    std::fs::write(&source, unit).unwrap();
+    let command = "cc -std=c11 -Iinclude -Ltarget/staticlib";
+    let library = Path::new("-ltrace_card");
+    assert!(compiled(command, &program, &[&source, library]));
+    let names = ["examples/bench.card", "examples/bench-fine.card"].map(file);
+    let output = Command::new(&program).args(&names).output().unwrap();
+    assert!(output.status.success());
+    let printed = String::from_utf8(output.stdout).unwrap();
+    let expected = "3: 0 apart, the first at 0,0\n0: 1 apart, the first at 0,4\n00001";
+    assert_eq!(printed, expected);
 }
 
 /// The section's command and what it says of a card, and its snippet, which C of 1999 takes too.

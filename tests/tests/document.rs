@@ -14,10 +14,10 @@ use trace_card_tests::model::figure::{carry, is_narrow, layer_carry, loss};
 use trace_card_tests::model::header::print;
 use trace_card_tests::model::planes::{card_order, cells_of_plane, CELL_BYTES};
 use trace_card_tests::model::predict::{cubic, predict};
-use trace_card_tests::model::program::trace;
+use trace_card_tests::model::program::{trace, trace_compare};
 use trace_card_tests::model::refusal::{
     BAD_PLANE, BYTES_AFTER, COEFFICIENT, HEADER_CUT, HEADER_LINE, LENGTHS, LEVELS_OR_STEP, LIMIT,
-    PAGE, PLAN, SAMPLE_RANGE, SHEET_SIZE,
+    PAGE, PLAN, SAMPLE_RANGE, SHEET_SIZE, SIZES,
 };
 use trace_card_tests::model::roll::{
     page_bytes, printed, COLUMN_PLACES, LINE_BYTES, LINE_PLACES, ROW_PLACES, VALUE_PLACES,
@@ -28,8 +28,8 @@ use trace_card_tests::model::sheet::{
 use trace_card_tests::model::steps::{coefficient, rebuilt, width, LARGEST_STEP};
 use trace_card_tests::model::write::OUTPUT_BYTES;
 use trace_card_tests::model::{
-    figure, open, plan_by_cells, plan_by_limit, roll, show, write, Curve, Opened, Plan, Planned,
-    Reached, Refusal, MAX_LAYERS,
+    compare, figure, open, plan_by_cells, plan_by_limit, roll, show, write, Compared, Curve,
+    Opened, Plan, Planned, Reached, Refusal, MAX_LAYERS,
 };
 use trace_card_tests::random::cases::{Case, Written};
 use trace_card_tests::random::Random;
@@ -266,6 +266,8 @@ fn the_refusals() {
         format!("so {PLAN} never applies to it."),
         format!("**Rolling.** All of showing's; then {PAGE}: the page is shorter"),
         format!("shorter than {LINE_BYTES} × (R × C + 1) bytes."),
+        format!("in its own; then {SIZES}: rows or columns of the two differ; then"),
+        format!("then {LENGTHS}: the bytes for the answer are not R × C."),
         format!("**Refining.** Opening's; {LENGTHS} as in reading; {PLAN}: the plan,"),
         format!("{COEFFICIENT}: a coefficient handed in is outside the range of {MOST_DIGITS}"),
         format!("{BAD_PLANE}: the new plane,"),
@@ -339,6 +341,45 @@ fn the_places_of_the_roll_are_enough() {
     says(&section("12. The calls"), &words);
 }
 
+/// The bench card and the finer one compared, each of them pulled at some byte: the answer and the bytes.
+fn compared(lengths: [usize; 2]) -> (Compared, [u8; 5]) {
+    let (first, second) = (bench::card(), bench::fine_card());
+    let mut apart = [9; 5];
+    let answer = compare(
+        &first[..lengths[0]],
+        &second[..lengths[1]],
+        &mut [0; 5],
+        &mut [0; 5],
+        &mut [0; 5],
+        &mut [0; 5],
+        &mut apart,
+    );
+    (answer.unwrap(), apart)
+}
+
+const WHOLE: [usize; 2] = [bench::CARD_BYTES, bench::FINE_CARD_BYTES];
+const PULLED: [usize; 2] = [160, bench::FINE_CARD_BYTES];
+
+#[test]
+fn the_comparison() {
+    let ((_, bytes), (none, all_agree)) = (compared(WHOLE), compared(PULLED));
+    let (agree, apart) = (bytes[0], bytes[4]);
+    assert_eq!((all_agree, none.apart), ([agree; 5], 0));
+    let part = section("12. The calls");
+    for words in [
+        "Two shown values *agree* where they differ by at most the sum of the two figures; \
+         otherwise they are *apart*."
+            .to_string(),
+        format!("a byte is {agree} where they agree and {apart} where they are apart."),
+        format!(
+            "row and column of the first of them in row order, {} and {} where there is none.",
+            none.first[0], none.first[1]
+        ),
+    ] {
+        says(&part, &words);
+    }
+}
+
 /// What the programs end with.
 #[test]
 fn the_program_trace() {
@@ -348,11 +389,20 @@ fn the_program_trace() {
     let refused = ends(&["roll"], &card[..63]);
     let listed = ends(&[], &card);
     assert_eq!((rolled, refused), (shown, ends(&["show"], &card[..63])));
+    assert_eq!(
+        [256, 63].map(|length| trace_compare(&card[..length], &card).1),
+        [rolled, refused]
+    );
     let part = section("12. The calls");
     for words in [
-        "`trace show` prints what `show` prints of it; `trace roll` prints the roll's lines."
+        "`trace show` prints what `show` prints of the card on standard input; `trace roll` prints \
+         its roll's lines."
             .to_string(),
         format!("and the program ends with {refused}; otherwise it ends with {rolled}."),
+        format!(
+            "named on standard error, nothing is printed on standard output, and the program ends \
+             with {listed}."
+        ),
         format!(
             "printed on standard error, nothing on standard output, and the program ends with \
              {listed}."
@@ -360,6 +410,28 @@ fn the_program_trace() {
     ] {
         says(&part, &words);
     }
+}
+
+/// The keys of the lines that `trace compare` prints, and the characters of the others.
+#[test]
+fn the_lines_of_a_comparison() {
+    let (text, _) = trace_compare(&bench::card(), &bench::fine_card());
+    let lines: Vec<&str> = text.lines().collect();
+    let [apart, first, marks] = lines[..] else {
+        panic!("{text}")
+    };
+    let key = |line: &str| line.split_inclusive('=').next().unwrap().to_string();
+    assert_eq!(first.split(',').count(), 2);
+    let (agree, is_apart) = (&marks[..1], &marks[4..]);
+    assert_eq!(marks, agree.repeat(4) + is_apart);
+    let words = format!(
+        "prints `{}` and the number of points apart, `{}` with row, comma and column of the first, \
+         and for each row a line of its bytes, the characters `{agree}` and `{is_apart}` with \
+         nothing between them.",
+        key(apart),
+        key(first),
+    );
+    says(&section("12. The calls"), &words);
 }
 
 /// A worked example of one row and one level: what the model makes of it, and where it is told.
@@ -401,6 +473,11 @@ impl Example {
 
     fn bench() -> Example {
         Example::new("The bench card", Curve::Linear, 1, &bench::SAMPLES)
+    }
+
+    fn fine() -> Example {
+        let sheet = bench::fine_sheet();
+        Example::new("Two cards", sheet.curve, sheet.step, &sheet.samples)
     }
 
     fn cubic() -> Example {
@@ -641,6 +718,93 @@ fn the_bench_card_is_planned() {
     let plan = said(&plan);
     bench.says(&format!(
         "In 5 cells it is {plan} with the figure {figure}."
+    ));
+}
+
+#[test]
+fn the_finer_card_is_written() {
+    let fine = Example::fine();
+    let Written { values, card, .. } = &fine.written;
+    let [anchors, others] = fine.columns();
+    assert_eq!(others, [1, 3]);
+    assert!(is_narrow(fine.opened.shape(), Layer::Across { s: 1 }));
+    let predicted = |column: usize| {
+        let [_, y, q, _] = fine.across(column);
+        let (b, c) = (values[column - 1], values[column + 1]);
+        format!("({b} + {c}) / 2 = {y}, so q = {q}")
+    };
+    fine.says(&format!(
+        "The bench card beside one of {}: one row of five samples, one level, cubic, step 0, so w = \
+         {}. Its anchors are {}. No point of a row of five has all four neighbours: column 1 is \
+         predicted as {}, and column 3 as {}.",
+        joined(&fine.case.samples, " "),
+        width(0),
+        listed(&at(&anchors, &fine.written.coefficients)),
+        predicted(1),
+        predicted(3),
+    ));
+
+    let header = fine.header();
+    let lines: Vec<&str> = header.lines().collect();
+    fine.says(&format!(
+        "Digits, highest first: {}. So `{}` and `{}`: the header has {} bytes and the card {}.",
+        fine.digits(),
+        lines[5],
+        lines[6],
+        header.len(),
+        card.len(),
+    ));
+    let planes = fine.planes();
+    let in_turn = [2, 1, 0].map(|p| [0, 1].map(|layer| format!("layer {layer} at place {p}")));
+    assert_eq!(planes[1], "layer 1 at place 3");
+    assert_eq!(planes[2..], in_turn.concat());
+    fine.says(&format!(
+        "In card order the planes are those of {}, then at place 3 that of layer 1, and of both \
+         layers in turn at places 2, 1 and 0. Their first bytes are {}.",
+        planes[0],
+        listed(&fine.first_bytes()),
+    ));
+}
+
+#[test]
+fn the_two_cards_are_compared() {
+    let (bench, fine) = (Example::bench(), Example::fine());
+    let (_, other, exact) = fine.pulled(bench::FINE_CARD_BYTES).unwrap();
+    // The values of the bench card pulled there, its figure, and how far off the finer card's are.
+    let beside = |length| {
+        let (_, values, reached) = bench.pulled(length).unwrap();
+        let off = values.iter().zip(&other);
+        let off: Vec<u64> = off.map(|(one, other)| one.abs_diff(*other)).collect();
+        (values, reached.figure, off)
+    };
+
+    let (values, figure, off) = beside(bench::CARD_BYTES);
+    let (answer, bytes) = compared(WHOLE);
+    let sum = figure + exact.figure;
+    assert_eq!(answer.apart, 1);
+    assert_eq!(off.iter().filter(|&&off| off == sum).count(), 3);
+    fine.says(&format!(
+        "Both whole, the bench card first: {} with the figure {figure} and {} with the figure {} \
+         differ by {}. At most {sum} agrees: the bytes are {}, one point is apart, the first at row \
+         {} and column {}. ({sum} is the sum exactly: three points agree by \"at most\" alone.)",
+        joined(&values, " "),
+        joined(&other, " "),
+        exact.figure,
+        listed(&off),
+        joined(&bytes, " "),
+        answer.first[0],
+        answer.first[1],
+    ));
+
+    let (values, figure, off) = beside(160);
+    let (answer, _) = compared(PULLED);
+    assert_eq!(answer.apart, 0);
+    assert_ne!(bench.case.samples[4], fine.case.samples[4]);
+    fine.says(&format!(
+        "The bench card pulled at byte 160, behind three planes of its anchors: {} with the figure \
+         {figure} differ by {}. All points agree, though the samples at column 4 differ:",
+        joined(&values, " "),
+        listed(&off),
     ));
 }
 

@@ -6,7 +6,7 @@ use common::card_with;
 use common::extremes::Sheet;
 use trace_card_tests::fast;
 use trace_card_tests::model::roll::page_bytes;
-use trace_card_tests::model::{self, open, Reached, Refusal};
+use trace_card_tests::model::{self, open, Compared, Reached, Refusal};
 use trace_card_tests::random::cases::{shapes_at_narrow_edge, Case, CURVES, LARGE_SIZES};
 use trace_card_tests::random::Random;
 
@@ -133,5 +133,148 @@ fn as_the_model() {
             let case = Case::of_shape(&mut random, shape, curve);
             check(&mut random, &case);
         }
+    }
+}
+
+type Compare = fn(
+    &[u8],
+    &[u8],
+    &mut [i32],
+    &mut [i64],
+    &mut [i32],
+    &mut [i64],
+    &mut [u8],
+) -> Result<Compared, Refusal>;
+
+/// Compares in slices of these lengths, two for each card and one for the marks, as the model does. Answers
+/// what it came to.
+fn check_compare(
+    [first, second]: [&[u8]; 2],
+    lengths: [(usize, usize); 2],
+    marks: usize,
+) -> Result<Compared, Refusal> {
+    let left = |compare: Compare| {
+        let mut coefficients = lengths.map(|(length, _)| vec![5; length]);
+        let mut values = lengths.map(|(_, length)| vec![5; length]);
+        let mut marks = vec![0xA7; marks];
+        let ([one_q, other_q], [one_v, other_v]) = (&mut coefficients, &mut values);
+        let compared = compare(first, second, one_q, one_v, other_q, other_v, &mut marks);
+        (compared, coefficients, values, marks)
+    };
+    let found = left(fast::compare);
+    assert_eq!(found, left(model::compare));
+    found.0
+}
+
+/// The same of two cards of so many points, sometimes with something that comparing them is refused for.
+fn check_faulty(
+    random: &mut Random,
+    mut cards: [Vec<u8>; 2],
+    points: [usize; 2],
+) -> Result<Compared, Refusal> {
+    for card in &mut cards {
+        if random.once_in(8) {
+            let at = random.below(card.len() as u64) as usize;
+            match random.below(4) {
+                0 => card.truncate(at),
+                _ => card[at] ^= 1 << random.below(8),
+            }
+        }
+    }
+    let mut one_more = |points| points + usize::from(random.once_in(20));
+    let lengths = points.map(|points| (one_more(points), one_more(points)));
+    let marks = one_more(points[0]);
+    check_compare(cards.each_ref().map(Vec::as_slice), lengths, marks)
+}
+
+/// How often comparisons gave no point apart, some, all of them, and each refusal.
+#[derive(Debug, Default)]
+struct Met {
+    none: usize,
+    some: usize,
+    all: usize,
+    refused: [usize; 14],
+}
+
+impl Met {
+    fn count(&mut self, compared: Result<Compared, Refusal>, points: usize) {
+        match compared {
+            Ok(Compared { apart: 0, .. }) => self.none += 1,
+            Ok(Compared { apart, .. }) if apart == points as u64 => self.all += 1,
+            Ok(_) => self.some += 1,
+            Err(refusal) => self.refused[refusal.number as usize] += 1,
+        }
+    }
+}
+
+/// Written cards whole and cut beside others, mostly of one size and often of sheets that are alike.
+#[test]
+fn comparisons_of_written_cards() {
+    let mut random = Random::new(563);
+    let mut cases: Vec<Case> = (0..3000).map(|_| Case::small(&mut random)).collect();
+    cases.extend(LARGE_SIZES.map(|(rows, cols)| Case::of_size(&mut random, rows, cols)));
+    let mut met = Met::default();
+    for case in cases {
+        let mut other = Case::of_size(&mut random, case.rows, case.cols);
+        match random.below(8) {
+            0 => other = Case::small(&mut random),
+            1..=5 => {
+                other.samples.clone_from(&case.samples);
+                let place = random.below(other.count() as u64) as usize;
+                other.samples[place] = random.between(-1_048_575, 1_048_575) as i32;
+            }
+            _ => {}
+        }
+        let points = [case.count(), other.count()];
+        let cards = [case, other].map(|case| {
+            let mut card = case.write().card;
+            let header = open(&card).unwrap().header_length;
+            if random.once_in(3) {
+                card.truncate(random.length(header, card.len()));
+            }
+            card
+        });
+        met.count(check_faulty(&mut random, cards, points), points[0]);
+    }
+    let Met {
+        none, some, all, ..
+    } = met;
+    assert!(none > 100 && some > 100 && all > 10, "{met:?}");
+    for number in [3, 5, 6, 8, 13] {
+        assert!(met.refused[number] > 10, "{met:?}");
+    }
+}
+
+/// Any values, those at the ends of what a card can show among them, and points apart that begin and end
+/// anywhere.
+#[test]
+fn comparisons_of_made_up_cards() {
+    let mut random = Random::new(564);
+    let mut met = Met::default();
+    for _ in 0..600 {
+        let (rows, cols) = random.pick(&[(1, 127), (128, 1), (1, 129), (20, 37), (16, 16), (1, 1)]);
+        let points = (rows * cols) as usize;
+        let one_in = random.pick(&[1, 2, 100, 1000, u64::MAX]);
+        let cards = [(); 2].map(|()| {
+            let coefficient = |_| match random.once_in(one_in) {
+                true => random.between(-2_796_202, 5_592_405) as i32,
+                false => 0,
+            };
+            let coefficients: Vec<i32> = (0..points).map(coefficient).collect();
+            let (levels, step) = (random.pick(&[0, 0, 3, 6]), random.pick(&[0, 1, 65_535]));
+            card_with((rows, cols), levels, "cubic", step, &coefficients)
+        });
+        met.count(check_faulty(&mut random, cards, [points; 2]), points);
+    }
+    let Met {
+        none, some, all, ..
+    } = met;
+    assert!(none > 50 && some > 100 && all > 10, "{met:?}");
+    let sheet = Sheet::new((64, 128), 6);
+    let ends = [true, false].map(|largest| sheet.extreme(largest).card);
+    for (one, other) in [(0, 0), (0, 1), (1, 0), (1, 1)] {
+        let cards = [&ends[one][..], &ends[other]];
+        let points = 64 * 128;
+        check_compare(cards, [(points, points); 2], points).unwrap();
     }
 }

@@ -4,7 +4,7 @@ use mathlib.Core.List.{List, [], _++_, append-nil}
 use mathlib.Core.Path.{_≡_, ap, sym, _∙_}
 use Prim.Native.Nat.{ℕ, _<_, _≤_}
 use native.Mathlib.Omega.{arith}
-use borrow.Author.Tests.{eqb-true, ne-eqb, ltb-true, ltb-false}
+use borrow.Author.Tests.{eqb-true, eqb-false, ne-eqb, ltb-true, ltb-false}
 use lib.Dec.{eqb, ltb}
 use lib.ListN.{length, drop, length-append}
 use Rattle.integers.proofs.Bools.{by}
@@ -32,6 +32,9 @@ long-refused bs h e =
 module _ (bs rest : List ℕ) (enough : bufferBytes ≤ length bs) where
   not-opened : eqb (opening (bs ++ rest) .refused .number) 0 ≡ false
   not-opened = ne-eqb _ _ (long-refused (bs ++ rest) (omega (arith, length-append bs rest)))
+
+  pub never-shown : shownOf (bs ++ rest) .number ≡ 0 → ⊥
+  never-shown shown = eqb-false _ _ not-opened (sym (refused-shown (bs ++ rest) not-opened) ∙ shown)
 
   pub long-number : shownOf (bs ++ rest) .number ≡ longNumber (opening bs .refused .number) (hasEnd rest)
   long-number = refused-shown (bs ++ rest) not-opened ∙ long-opening bs rest enough

@@ -4,7 +4,7 @@ use mathlib.Core.Path.{_≡_, refl, ap, ap₂, _∙_}
 use Prim.Native.Nat.{ℕ, zero, suc, _≤_}
 use native.Mathlib.Omega.{arith}
 use lib.IntN.{ℤ, pos}
-use lib.ListN.{take, replicate}
+use lib.ListN.{length, take, replicate, length-take, length-replicate}
 use Rattle.sheet.specs.declared.Shape.{Shape}
 use Rattle.sheet.specs.Limits.{pointsMost}
 use Rattle.sheet.specs.Sheet.{points}
@@ -17,10 +17,21 @@ use Rattle.card.specs.Reading.{Reading, asReading, showing}
 use Rattle.display.specs.Shown.{room, seen, shownOf, valuesOf}
 use Rattle.header.proofs.OpenedSize.{Small, opened-small}
 
-take-replicate : (n m : ℕ) (x : ℤ) → n ≤ m → take n (replicate m x) ≡ replicate n x
-take-replicate zero m x h = refl
-take-replicate (suc n) zero x h = absurd (let z : ⊥ = omega arith in z)
-take-replicate (suc n) (suc m) x h = ap (λ (l : List ℤ). x ∷ l) (take-replicate n m x (omega arith))
+module _ {A : Type 0} (x : A) where
+  take-replicate : (n m : ℕ) → n ≤ m → take n (replicate m x) ≡ replicate n x
+  take-replicate zero m h = refl
+  take-replicate (suc n) zero h = absurd (let z : ⊥ = omega arith in z)
+  take-replicate (suc n) (suc m) h = ap (λ (l : List A). x ∷ l) (take-replicate n m (omega arith))
+
+  -- a slice that has room for any sheet, cut to fewer points
+  module _ (l : List A) (is : l ≡ replicate pointsMost x) (n : ℕ) (few : n ≤ pointsMost) where
+    pub cut-is : take n l ≡ replicate n x
+    cut-is = ap (take n) is ∙ take-replicate n pointsMost few
+
+    pub cut-fits : (n ≤ length l) × (n ≡ length (take n l))
+    cut-fits =
+        let long = ap length is ∙ length-replicate pointsMost x in
+        (omega (arith, long), omega (arith, long, length-take n l))
 
 module _ (bs : List ℕ) (o : Opened) (e : O.asOpening o ≡ opening bs) where
   pub shape-is : o .header .shape ≡ opening bs .header .shape
@@ -31,7 +42,7 @@ module _ (bs : List ℕ) (o : Opened) (e : O.asOpening o ≡ opening bs) where
 
   -- a slice of zeros, cut to the sheet
   pub cut : (l : List ℤ) → l ≡ replicate pointsMost (pos 0) → take (points (o .header .shape)) l ≡ room bs
-  cut l f = ap (take (points (o .header .shape))) f ∙ take-replicate (points (o .header .shape)) pointsMost (pos 0) (sheet-small .1) ∙ ap (λ (s : Shape). replicate (points s) (pos 0)) shape-is
+  cut l f = cut-is (pos 0) l f (points (o .header .shape)) (sheet-small .1) ∙ ap (λ (s : Shape). replicate (points s) (pos 0)) shape-is
 
   module _ (r : Reached) (qs vs cs ws : List ℤ) (c : cs ≡ replicate pointsMost (pos 0)) (w : ws ≡ replicate pointsMost (pos 0))
       (d : asReading r qs vs ≡ showing (take (points (o .header .shape)) cs) (take (points (o .header .shape)) ws) bs) where

@@ -1,8 +1,8 @@
--- How the text is written, piece by piece, and what is said of an input of any length. Laws: the pieces in order are the text (`AllPieces.shown-pieces`),
--- and what is said of an input is what all its bytes show (`LongShown.input-number`, `long-shown`).
+-- How the text is written, piece by piece, and what is said of an input of any length. Laws: the pieces in order are the text (`AllPieces.shown-pieces`,
+-- `BothInputs.compared-pieces`), and what is said of an input, or of two, is what all its bytes show (`LongShown.input-number`, `long-shown`, `BothInputs.both-number`).
 use mathlib.Core.Bool.{Bool, cond, not, _&&_}
 use mathlib.Core.List.{List, [], _∷_, _++_}
-use Prim.Native.Nat.{ℕ, _+_, _*_, _-_, _%_}
+use Prim.Native.Nat.{ℕ, _+_, _*_, _-_, _%_, _<_, _≤_}
 use lib.Dec.{ltb, eqb}
 use lib.IntN.{ℤ, pos}
 use lib.ListN.{length, getD}
@@ -17,10 +17,12 @@ use Rattle.header.specs.Opening.{opening}
 use Rattle.roll.specs.Page.{linePlaces}
 use Rattle.display.specs.declared.Ahead.{Ahead}
 use Rattle.display.specs.declared.Ahead.the-variants.{End, Nothing, More}
+use Rattle.display.specs.declared.Compared.{Compared}
 use Rattle.display.specs.declared.Piece.{Piece}
 use Rattle.display.specs.declared.Shown.{Shown}
 use Rattle.text.specs.Decimal.{signed}
 use Rattle.display.specs.Shown.{loadedText, shownOf}
+use Rattle.display.specs.Compared.{seenBoth, marksOf}
 
 -- ---- a piece: text in a fixed room
 -- room for a key, and for the longest piece, which is the line of planes: a comma or the line's end stands behind each count
@@ -104,3 +106,26 @@ inputNumber bs ends = cond (ltb (length bs) bufferBytes) (shownOf bs .number) (l
 -- ---- room for the lines of any sheet's roll
 abbrev pub pageMost : ℕ
 pageMost = (linePlaces + 1) * (pointsMost + 1)
+
+-- ---- two inputs
+-- the first of two numbers that is a refusal's
+abbrev pub firstNumber : ℕ → ℕ → ℕ
+firstNumber number next = cond (eqb number 0) next number
+
+-- the number of their refusal: the first's own, then the second's, then what comparing them is refused for
+abbrev pub bothNumber : List ℕ → Bool → List ℕ → Bool → ℕ
+bothNumber bs ends bs′ ends′ = firstNumber (inputNumber bs ends) (firstNumber (inputNumber bs′ ends′) (seenBoth bs bs′ .refused .number))
+
+-- what is said of two cards but for the lines of marks, of which it is how many bytes they take
+abbrev pub comparedOf : List ℕ → List ℕ → Compared
+comparedOf bs bs′ =
+    let c = seenBoth bs bs′ in
+    record { number = c .refused .number; apart = c .number; row = c .row; column = c .column; length = length (marksOf bs bs′) }
+
+-- room for the lines of marks of any sheet: its points, and a line's end for each row
+abbrev pub marksMost : ℕ
+marksMost = 2 * pointsMost
+
+-- each of these bytes is a mark
+abbrev pub Marks : List ℕ → Type 0
+Marks ms = (p : ℕ) → p < length ms → getD ms p 0 ≤ 1

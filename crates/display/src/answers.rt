@@ -11,9 +11,11 @@ ghost use Rattle.header.specs.Opening as O;
 ghost use Rattle.display.specs.Shown as S;
 ghost use Rattle.display.specs.Workings as W;
 use crate::Ahead;
+use crate::BUFFER;
 use crate::CHUNK;
 use crate::Rolled;
 use crate::Shown;
+use sheet::MOST_POINTS;
 
 // What is shown of a card that is all there, with its values at the front of their slice.
 pub(crate) fn shown_of(bytes: &[u8], coefficients: &mut [i32], values: &mut [i64]) -> Shown
@@ -67,7 +69,7 @@ pub(crate) fn ahead_of(bytes: &[u8]) -> Ahead
 }
 
 // The number of the refusal of an input that is longer than any card: that of its first bytes, but for a line whose byte 10 comes later.
-pub(crate) fn long_number(number: u64, ends: bool) -> u64
+fn long_number(number: u64, ends: bool) -> u64
     ensures { λ r. ⌜ r ≡ W.longNumber number ends ⌝ }
 {
     if number == 5 {
@@ -75,6 +77,18 @@ pub(crate) fn long_number(number: u64, ends: bool) -> u64
     } else {
         number
     }
+}
+
+// The number of an input's refusal, 0 where it is a card that is shown.
+pub(crate) fn number_of(bytes: &[u8], ends: bool) -> u64
+    ensures { λ r. ⌜ r ≡ W.inputNumber (now (bytes .entry)) ends ⌝ }
+{
+    if BUFFER <= bytes.len() {
+        return long_number(opening_number(bytes), ends);
+    }
+    let mut coefficients = [0i32; MOST_POINTS];
+    let mut values = [0i64; MOST_POINTS];
+    shown_of(bytes, &mut coefficients, &mut values).number
 }
 
 // The roll of a card that is all there, with its lines at the front of the page.

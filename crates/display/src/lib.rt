@@ -1,12 +1,14 @@
-// What the programs print of a card: reading it from a file, what is to be shown of its bytes, the pieces of text, and the printing, which only loops and
-// writes them.
+// What the programs print of a card, and of two: reading it from a file, what is to be shown of its bytes, the pieces of text, and the printing, which only
+// loops and writes them.
 mod answers;
+mod comparing;
 mod pieces;
 mod printing;
 mod reading;
 
 use header::Plan;
 pub use pieces::piece_at;
+pub use printing::compare;
 pub use printing::roll;
 pub use printing::show;
 pub use reading::read;
@@ -40,8 +42,21 @@ pub struct Rolled {
     pub length: usize,
 }
 
+// What is printed of two cards but for the lines of marks: the number of their refusal, or 0 and how many points are apart, row and column of the first, and
+// how many bytes those lines take.
+pub struct Compared {
+    pub number: u64,
+    pub apart: u64,
+    pub row: u64,
+    pub column: u64,
+    pub length: usize,
+}
+
 // Room for the lines of any sheet.
 pub const MOST_PAGE: usize = roll::LINE_BYTES * (MOST_POINTS + 1);
+
+// Room for the lines of marks of any sheet: its points, and a line's end for each row.
+pub const MOST_MARKS: usize = 2 * MOST_POINTS;
 
 // How much of an input is read at first. A card has at most 32,768 bytes, so an input that has as many as this is none.
 pub const BUFFER: usize = 40000;

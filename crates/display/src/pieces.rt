@@ -9,6 +9,7 @@ ghost use Rattle.text.specs.Workings as W;
 ghost use Rattle.text.specs.Line as L;
 ghost use Rattle.text.specs.Joined as J;
 ghost use Rattle.display.specs.Shown as S;
+ghost use Rattle.display.specs.Compared as C;
 ghost use Rattle.display.specs.Workings as Wk;
 use crate::MOST_PIECE;
 use crate::Piece;
@@ -62,11 +63,19 @@ fn with_value(piece: Piece, value: i64) -> Piece
 }
 
 // The line of a key and a number.
-fn line(key: &[u8], n: u64) -> Piece
+pub(crate) fn line(key: &[u8], n: u64) -> Piece
     requires { ⌜ length (now key) ≤ Wk.keyMost ⌝ }
     ensures { λ r. ⌜ r ≡ Wk.pieceOf (L.lineText (now (key .entry)) n) ⌝ }
 {
     with_text(with_number(with_text(nothing(), key), n), b"\n")
+}
+
+// The line of the first point apart.
+pub(crate) fn first_line(row: u64, column: u64) -> Piece
+    ensures { λ r. ⌜ r ≡ Wk.pieceOf (C.firstText row column) ⌝ }
+{
+    let first = with_text(with_number(with_text(nothing(), b"first="), row), b",");
+    with_text(with_number(first, column), b"\n")
 }
 
 // A piece with the first `count` numbers behind it, commas between.

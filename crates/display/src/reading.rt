@@ -1,6 +1,5 @@
 // Reading a card from a file. No contract can speak of what is read, so these lines are to be read too.
-ghost use Prim.Native.Nat.{_≤_};
-ghost use lib.ListN.{length};
+ghost use Rattle.io.specs.Counts.{Counts};
 use crate::Ahead;
 use crate::BUFFER;
 use crate::CHUNK;
@@ -31,7 +30,7 @@ fn ends_later(file: i32) -> bool {
 // Reads a file into a buffer of `BUFFER` bytes, as far as it goes. Of what was read it is only promised that it is within the buffer: no contract can
 // speak of what a file holds.
 pub fn read(file: i32, buffer: &mut [u8]) -> Input
-    ensures { λ r. ⌜ r .length ≤ length (now (buffer .entry)) ⌝ }
+    ensures { λ r. ⌜ Counts (r .length) (now (buffer .exit)) ⌝ }
 {
     let length = io::read_full(file, buffer);
     let ends = BUFFER <= length && opening_number(&buffer[..length]) == 5 && ends_later(file);

@@ -18,6 +18,7 @@ mod Step
 mod Taken
 mod Written
 pub mod Again
+pub mod Compares
 pub mod Holds
 pub mod Refined
 pub mod Refused

@@ -30,8 +30,10 @@ use Rattle.card.specs.Reading.{Reading, notRead, unless, firstRefusal, readOpen
 use Rattle.card.specs.Refining.{refineOpened, refining}
 use Rattle.roll.specs.Page.{pageLength}
 use Rattle.roll.specs.Rolling.{Rolling, notRolled, rolled, rolling}
-use Rattle.trace_card.specs.Boundary.{answerLength, AfterReading, AfterAsking, answerable, isPlan, planOf, readAs, rolledAs, left, printedOn, asked, unread, writingBy, writeCall, readCall, showCall, refineCall, rollCall, figureCall, limitCall, cellsCall}
-use Rattle.guarantee.specs.Unchanged.{KeptByWriting, KeptByReading, KeptByRolling, KeptByWrite, KeptByRead, KeptByRoll, UnchangedThroughC, Unchanged}
+use Rattle.compare.specs.Comparing.{Lent, Comparing, sizeRefusal, notCompared, comparing}
+use Rattle.compare.specs.Comparing as N
+use Rattle.trace_card.specs.Boundary.{answerLength, AfterReading, AfterAsking, answerable, isPlan, planOf, readAs, rolledAs, comparedAs, left, printedOn, marked, asked, unread, writingBy, writeCall, readCall, showCall, refineCall, rollCall, compareCall, figureCall, limitCall, cellsCall}
+use Rattle.guarantee.specs.Unchanged.{KeptByWriting, KeptByReading, KeptByRolling, KeptByComparing, KeptByWrite, KeptByRead, KeptByRoll, KeptByCompare, UnchangedThroughC, Unchanged}
 
 -- ---- writing
 module _ (xs : List ℤ) (sh : Shape) (curve : Curve) (e : ℕ) (qs vs : List ℤ) (out : List ℕ) where
@@ -102,6 +104,22 @@ module _ (qs vs : List ℤ) (page : List ℕ) where
       (λ _. record { slices = showing-kept qs vs bs; page = λ no. absurd (no (eqb-true (shown .refused .number) 0 y)) }))
       (λ _. not-rolled _)
 
+-- ---- comparing
+module _ (one two : Lent) (bytes : List ℕ) where
+  not-compared : (d : Details) → KeptByComparing one two bytes (notCompared one two bytes d)
+  not-compared d = record { first = λ _. refl; second = λ _. refl; apart = λ _. refl }
+
+  unless-compared : (d : Details) {go : Comparing} → KeptByComparing one two bytes go → KeptByComparing one two bytes (N.unless one two bytes d go)
+  unless-compared d kept = choice (KeptByComparing one two bytes) (eqb (d .number) 0) (λ _. kept) (λ _. not-compared d)
+
+  comparing-kept : (first second : List ℕ) → KeptByComparing one two bytes (comparing one two bytes first second)
+  unfolding comparing
+  comparing-kept first second =
+      unless-compared (showing (one .coefficients) (one .values) first .refused)
+      (unless-compared (showing (two .coefficients) (two .values) second .refused)
+      (unless-compared (sizeRefusal (opening first .header .shape) (opening second .header .shape) bytes)
+      (record { first = λ no. absurd (no refl); second = λ no. absurd (no refl); apart = λ no. absurd (no refl) })))
+
 -- ---- through C: what the call below leaves, or everything where a length is wrong
 module _ (xs : List ℤ) (rows cols levels curve step : ℕ) (qs vs : List ℤ) (out : List ℕ) where
   abbrev sh : Shape
@@ -135,6 +153,13 @@ module _ (qs vs : List ℤ) (page : List ℕ) where
   nothing-rolled : (answer : List ℕ) → KeptByRoll qs vs page (printedOn 3 answer qs vs page)
   nothing-rolled answer = record { slices = nothing-read qs vs answer; page = λ _. refl }
 
+module _ (one two : Lent) (bytes : List ℕ) where
+  compared-as : {c : Comparing} → KeptByComparing one two bytes c → KeptByCompare one two bytes (comparedAs c)
+  compared-as kept = record { first = kept .first; second = kept .second; apart = kept .apart }
+
+  nothing-compared : (answer : List ℕ) → KeptByCompare one two bytes (marked 3 answer one two bytes)
+  nothing-compared answer = record { first = λ _. refl; second = λ _. refl; apart = λ _. refl }
+
 wrong-answer : (answer : List ℕ) → (length answer ≡ answerLength → ⊥) → answerable answer ≡ false
 wrong-answer answer wrong = not-yes (answerable answer) (λ y. wrong (eqb-true (length answer) answerLength y))
 
@@ -147,7 +172,7 @@ by-lengths P answer plan good bad =
     (λ _. bad)
 
 through-c : UnchangedThroughC
-unfolding writeCall readCall showCall refineCall rollCall figureCall limitCall cellsCall
+unfolding writeCall readCall showCall refineCall rollCall compareCall figureCall limitCall cellsCall
 through-c =
     record {
       write = write-kept;
@@ -159,16 +184,19 @@ through-c =
           by-lengths (KeptByRead qs vs) answer plan (λ _. read-as qs vs (refining-kept qs vs card (planOf plan) layer)) (nothing-read qs vs answer);
       roll = λ qs vs page answer card.
           choice (KeptByRoll qs vs page) (answerable answer) (λ _. rolled-as qs vs page (rolling-kept qs vs page card)) (λ _. nothing-rolled qs vs page answer);
+      compare = λ one two apart answer first second.
+          choice (KeptByCompare one two apart) (answerable answer) (λ _. compared-as one two apart (comparing-kept one two apart first second)) (λ _. nothing-compared one two apart answer);
       unwritten = λ xs rows cols levels curve step qs vs out answer wrong. rw (wrong-answer answer wrong);
       unread = λ qs vs answer card plan wrong. by-lengths (λ (a : AfterReading). a ≡ left 3 answer qs vs) answer plan (λ good. absurd (wrong good)) refl;
       unshown = λ qs vs answer card wrong. rw (wrong-answer answer wrong);
       unrefined = λ qs vs answer card plan layer wrong.
           by-lengths (λ (a : AfterReading). a ≡ left 3 answer qs vs) answer plan (λ good. absurd (wrong good)) refl;
       unrolled = λ qs vs page answer card wrong. rw (wrong-answer answer wrong);
+      uncompared = λ one two apart answer first second wrong. rw (wrong-answer answer wrong);
       unbounded = λ card plan answer wrong. by-lengths (λ (a : AfterAsking). a ≡ asked 3 answer) answer plan (λ good. absurd (wrong good)) refl;
       unplanned-limit = λ card limit answer wrong. rw (wrong-answer answer wrong);
       unplanned-cells = λ card cells answer wrong. rw (wrong-answer answer wrong);
     }
 
 pub unchanged : Unchanged
-unchanged = record { write = writing-kept; read = reading-kept; show = showing-kept; refine = refining-kept; roll = rolling-kept; through-c = through-c }
+unchanged = record { write = writing-kept; read = reading-kept; show = showing-kept; refine = refining-kept; roll = rolling-kept; compare = comparing-kept; through-c = through-c }

@@ -4,7 +4,7 @@ use lib.ListN.{take}
 use Rattle.integers.specs.Floor.{floorDiv, ceilDiv}
 use Rattle.digits.specs.Digits.{value, firstFrom, loss}
 use Rattle.digits.proofs.Examples as E
-use Rattle.sheet.specs.Lists.{tabulate, count, total}
+use Rattle.sheet.specs.Lists.{tabulate, count, nth, total}
 use Rattle.sheet.specs.Sheet.{spacing, inLayer, layerSize, placeIn, directions}
 use Rattle.layers.specs.Prediction.{linear, line, predictedAt, width, coefficientOf, rebuiltFrom}
 use Rattle.layers.specs.Layering.{lastIn, pointBy, layerBy, valuesBy, alongside, rebuilt, written, coefs}
@@ -19,9 +19,10 @@ use Rattle.packing.specs.Planes.{allBelow}
 use Rattle.loading.specs.InBytes.{bitAt, clean, hasOne, fineBits, fine, badSlot, firstBad, coefRead, coefsRead}
 use Rattle.text.specs.Decimal.{digitsIn, decimal, signed}
 use Rattle.text.specs.Text.{rightAligned}
+use Rattle.compare.specs.Comparing.{agree, apartAt, marks}
 use Rattle.roll.specs.Page.{figureLine, valueLine, valueLines, pageText}
 use Rattle.planner.specs.Planning.{withUpTo, eachUpTo, listsUpTo, plansOf, winsTie, better, bestOf, bestByLimit, bestByCells}
-use Rattle.guarantee.specs.Bench.{card, Bench}
+use Rattle.guarantee.specs.Bench.{card, fineCard, Bench}
 use Rattle.guarantee.proofs.RowsOpened.{openings}
 use Rattle.guarantee.proofs.RowsCalls as C
 
@@ -30,6 +31,7 @@ unfolding
     coefs written alongside rebuilt valuesBy layerBy tabulate pointBy predictedAt line linear coefficientOf rebuiltFrom floorDiv width
     firstOver firstFrom whole isWhole cellsBefore firstBad badSlot fine fineBits clean hasOne bitAt allBelow coefsRead coefRead value lastIn placeIn
     bestByLimit bestByCells bestOf better winsTie plansOf listsUpTo eachUpTo withUpTo
+    marks apartAt agree nth
     pageText figureLine valueLines valueLine rightAligned signed decimal digitsIn
     bounding figureOf standing carried narrow loss cellsOf total planeCells ceilDiv layerSize count inLayer directions spacing asciiFrom
 bench =
@@ -39,6 +41,9 @@ bench =
       long = refl;
       at160 = λ qs vs five. C.shown qs vs five (take 160 card) (openings .at160);
       roll160 = λ qs vs page five room. C.rolls qs vs five (take 160 card) (openings .at160) refl page room;
+      fineWritten = C.fine-written;
+      apart = λ one two bytes five five′ long. C.compares one two bytes five five′ long card fineCard (openings .whole) (openings .fine) refl refl;
+      agreed = λ one two bytes five five′ long. C.compares one two bytes five five′ long (take 160 card) fineCard (openings .at160) (openings .fine) refl refl;
       at159 = λ qs vs five. C.shows qs vs five (take 159 card) (openings .at159);
       at64 = λ qs vs five. C.shows qs vs five (take 64 card) (openings .at64);
       at63 = C.cut;

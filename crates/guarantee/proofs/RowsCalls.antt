@@ -1,7 +1,7 @@
 -- What the calls come to on the bench card once their tests pass: those of lengths by the lengths that are given, those of the header by how the card opens.
 use mathlib.Core.Bool.{cond}
 use mathlib.Core.List.{List}
-use mathlib.Core.Path.{_≡_, refl, ap}
+use mathlib.Core.Path.{_≡_, refl, sym, ap, _∙_}
 use Prim.Native.Nat.{ℕ, _≤_}
 use native.Mathlib.Omega.{arith}
 use borrow.Author.Tests.{eq-eqb, le-leb, le-ltb}
@@ -10,18 +10,22 @@ use lib.IntN.{ℤ}
 use lib.ListN.{length, take}
 use Rattle.integers.specs.Floor.{floorDiv, ceilDiv}
 use Rattle.digits.specs.Digits.{evens, odds, lowest, higher, digitAt, holds, firstFrom}
-use Rattle.sheet.specs.declared.Curve.the-variants.{Linear}
+use Rattle.sheet.specs.declared.Curve.the-variants.{Linear, Cubic}
 use Rattle.sheet.specs.Lists.{tabulate, count, nth, total}
-use Rattle.sheet.specs.Sheet.{spacing, inLayer, layerSize, pointOf, directions}
+use Rattle.sheet.specs.Sheet.{points, spacing, inLayer, layerSize, pointOf, directions}
+use Rattle.layers.specs.Prediction.{linear, line, predictedAt, width, coefficientOf, rebuiltFrom}
+use Rattle.layers.specs.Layering.{layering, pointBy, layerBy, valuesBy, alongside, coefs}
 use Rattle.layers.specs.Samples.{full, inRange, goodPrefix, scanned}
 use Rattle.layers.proofs.Worked.{bench-coefs}
 use Rattle.text.specs.Decimal.{digitsIn, decimal}
 use Rattle.text.specs.Line.{lineText}
 use Rattle.text.specs.Joined.{joined}
+use Rattle.header.specs.declared.Header.{Header}
 use Rattle.header.specs.Refusals.{refusal}
 use Rattle.header.specs.Header.{planeCells, cellsOf, asciiFrom, headerText}
 use Rattle.header.specs.Plan.{loads}
 use Rattle.header.specs.Opening.{opening}
+use Rattle.header.proofs.HeaderLines.{accepting}
 use Rattle.header.proofs.Over.{none-over}
 use Rattle.header.proofs.Worked.{benchHeader}
 use Rattle.order.specs.CardOrder.{atPlace, downFrom, wholeOf}
@@ -31,12 +35,13 @@ use Rattle.loading.specs.InBytes.{firstBad}
 use Rattle.card.specs.Reading.{Reading, readWhole, readOpened, showing}
 use Rattle.card.specs.Reading as R
 use Rattle.card.proofs.ReadCall.{lengths-good, checked-none}
+use Rattle.compare.specs.Comparing.{Lent, sameSize, sizeRefusal, compared, comparing}
 use Rattle.roll.specs.Page.{pageText}
 use Rattle.roll.specs.Rolling.{printed, rolled, rolling}
 use Rattle.planner.specs.Planning.{bestByLimit, bestByCells, found, byLimit, byCells}
 use Rattle.planner.specs.Planning as N
-use Rattle.guarantee.specs.Bench.{shape, samples, coefficients, card, Five}
-use Rattle.guarantee.proofs.RowsOpened.{opened, openings}
+use Rattle.guarantee.specs.Bench.{shape, samples, coefficients, card, fineSamples, fineCoefficients, fineCard, Five}
+use Rattle.guarantee.proofs.RowsOpened.{opened, fineHeader, openings}
 
 -- ---- writing
 -- the counts 5,1,0 and the six planes
@@ -46,6 +51,18 @@ unfolding
     body downFrom atPlace planeBytes planeBit packed digitAt lowest higher floorDiv pointOf nth
     tabulate planeCells ceilDiv layerSize count inLayer directions spacing cellsOf total
 card-is = refl
+
+-- 7,4,0 and eleven planes
+fine-coefs : coefs (layering shape Cubic) 0 fineSamples ≡ fineCoefficients
+unfolding coefs alongside valuesBy layerBy tabulate pointBy inLayer directions spacing ceilDiv predictedAt line linear coefficientOf rebuiltFrom floorDiv width
+fine-coefs = refl
+
+fine-is : cardOf shape Cubic 0 fineCoefficients ≡ fineCard
+unfolding
+    cardOf headerText lineText decimal digitsIn joined asciiFrom countsFor planesFor enough allBelow firstFrom holds evens odds
+    body downFrom atPlace planeBytes planeBit packed digitAt lowest higher floorDiv pointOf nth
+    tabulate planeCells ceilDiv layerSize count inLayer directions spacing cellsOf total
+fine-is = refl
 
 pub written : (qs vs : List ℤ) (out : List ℕ) → Five qs vs → outputLeast ≤ length out
     → writing samples shape Linear 1 qs vs out ≡ done samples shape Linear 1 qs vs out card
@@ -59,19 +76,39 @@ written qs vs out five room =
       card-is,
     )
 
--- ---- showing
-module _ (qs vs : List ℤ) where
+pub fine-written : (qs vs : List ℤ) (out : List ℕ) → Five qs vs → outputLeast ≤ length out
+    → writing fineSamples shape Cubic 0 qs vs out ≡ done fineSamples shape Cubic 0 qs vs out fineCard
+unfolding writing badSizes full scanned goodPrefix inRange
+fine-written qs vs out five room =
+    rw (
+      eq-eqb (length qs) 5 (five .coefficients),
+      eq-eqb (length vs) 5 (five .values),
+      le-leb outputLeast (length out) room,
+      fine-coefs,
+      fine-is,
+    )
+
+-- ---- showing a card of five points, whose header has 64 bytes
+module _ (h : Header) (size : points (h .shape) ≡ 5) (qs vs : List ℤ) where
   -- reading with all whole planes
+  abbrev pub readAll : List ℕ → Reading
+  readAll bs =
+      let plan = wholeOf bs h 64 in
+      readWhole qs vs h 64 bs plan (firstBad h 64 bs (loads plan))
+
+  pub shows-all : Five qs vs → (bs : List ℕ) → opening bs ≡ accepting h 64 → showing qs vs bs ≡ readAll bs
+  unfolding showing readOpened
+  shows-all five bs o =
+      let plan = wholeOf bs h 64 in
+      rw (o, checked-none qs vs h plan plan (lengths-good qs vs h (five .coefficients ∙ sym size) (five .values ∙ sym size)) (none-over (loads plan) (loads plan) (λ k l. omega arith)))
+
+-- the bench card
+module _ (qs vs : List ℤ) where
   abbrev pub wholeRead : List ℕ → Reading
-  wholeRead bs =
-      let plan = wholeOf bs benchHeader 64 in
-      readWhole qs vs benchHeader 64 bs plan (firstBad benchHeader 64 bs (loads plan))
+  wholeRead = readAll benchHeader refl qs vs
 
   pub shown : Five qs vs → (bs : List ℕ) → opening bs ≡ opened → showing qs vs bs ≡ wholeRead bs
-  unfolding showing readOpened
-  shown five bs o =
-      let plan = wholeOf bs benchHeader 64 in
-      rw (o, checked-none qs vs benchHeader plan plan (lengths-good qs vs benchHeader (five .coefficients) (five .values)) (none-over (loads plan) (loads plan) (λ k l. omega arith)))
+  shown = shows-all benchHeader refl qs vs
 
   pub shows : Five qs vs → (bs : List ℕ) → opening bs ≡ opened
       → (showing qs vs bs .plan ≡ wholeRead bs .plan) × (showing qs vs bs .figure ≡ wholeRead bs .figure)
@@ -86,6 +123,29 @@ module _ (qs vs : List ℤ) where
   pub cut : showing qs vs (take 63 card) ≡ R.notRead qs vs (refusal 5 0 0)
   unfolding showing
   cut = rw (openings .at63)
+
+-- ---- comparing what the bench card shows with what the finer one does
+module _ (one two : Lent) (bytes : List ℕ) where
+  abbrev coarse : List ℕ → Reading
+  coarse bs = wholeRead (one .coefficients) (one .values) bs
+
+  abbrev fine : List ℕ → Reading
+  fine bs = readAll fineHeader refl (two .coefficients) (two .values) bs
+
+  pub compares : Five (one .coefficients) (one .values) → Five (two .coefficients) (two .values) → length bytes ≡ 5 → (bs bs′ : List ℕ)
+      → opening bs ≡ opened → opening bs′ ≡ accepting fineHeader 64 → coarse bs .refused .number ≡ 0 → fine bs′ .refused .number ≡ 0
+      → comparing one two bytes bs bs′ ≡ compared one two bytes shape (coarse bs) (fine bs′)
+  unfolding comparing sizeRefusal sameSize
+  compares five five′ long bs bs′ o o′ zero zero′ =
+      rw (
+        shown (one .coefficients) (one .values) five bs o,
+        shows-all fineHeader refl (two .coefficients) (two .values) five′ bs′ o′,
+        zero,
+        zero′,
+        o,
+        o′,
+        eq-eqb (length bytes) 5 long,
+      )
 
 -- ---- planning
 pub by-limit : (limit : ℕ) → byLimit card limit ≡ cond (ltb limit 1) (N.notPlanned (refusal 10 0 0)) (found benchHeader (bestByLimit benchHeader limit))

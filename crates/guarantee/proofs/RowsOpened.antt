@@ -1,4 +1,4 @@
--- The bench card as it opens, by computation: whole, and truncated at each byte that the worked rows name; and the narrow card.
+-- The bench card as it opens, by computation: whole, and truncated at each byte that the worked rows name; the narrow card and the finer one.
 use mathlib.Core.List.{[], _∷_}
 use mathlib.Core.Path.{_≡_, refl}
 use lib.ListN.{take}
@@ -16,7 +16,7 @@ use Rattle.header.specs.Header.{planeCells, cellsOf, asciiFrom}
 use Rattle.header.specs.Opening.{Opening, notOpened, curveLine, planesMost, limits, openingCells, openingPlanes, openingStep, openingCurve, openingLevels, openingCols, opening}
 use Rattle.header.proofs.HeaderLines.{accepting}
 use Rattle.header.proofs.Worked.{benchHeader}
-use Rattle.guarantee.specs.Bench.{card, narrowText}
+use Rattle.guarantee.specs.Bench.{card, narrowText, fineCard}
 
 -- the header, whose text has 64 bytes
 abbrev pub opened : Opening
@@ -33,6 +33,17 @@ narrowHeader =
       cells = 26;
     }
 
+-- the finer card's
+abbrev pub fineHeader : Header
+fineHeader =
+    record {
+      shape = sheetOf 1 5 1;
+      curve = Cubic;
+      step = 0;
+      planes = 7 ∷ 4 ∷ 0 ∷ 0 ∷ 0 ∷ 0 ∷ 0 ∷ 0 ∷ 0 ∷ 0 ∷ 0 ∷ 0 ∷ 0 ∷ [];
+      cells = 11;
+    }
+
 pub record Openings : Type 0 where
   pub whole : opening card ≡ opened
   pub at160 : opening (take 160 card) ≡ opened
@@ -40,9 +51,10 @@ pub record Openings : Type 0 where
   pub at64 : opening (take 64 card) ≡ opened
   pub at63 : opening (take 63 card) ≡ notOpened (refusal 5 0 0)
   pub narrow : opening narrowText ≡ accepting narrowHeader 68
+  pub fine : opening fineCard ≡ accepting fineHeader 64
 
 pub openings : Openings
 unfolding
     opening openingCols openingLevels openingCurve openingStep openingPlanes openingCells lineAt curveLine indexOf starts hasEnd parsed upTo more pushed numbersIn limits tabulate planesMost padded
     layerSize count inLayer directions spacing cellsOf total planeCells ceilDiv asciiFrom
-openings = record { whole = refl; at160 = refl; at159 = refl; at64 = refl; at63 = refl; narrow = refl }
+openings = record { whole = refl; at160 = refl; at159 = refl; at64 = refl; at63 = refl; narrow = refl; fine = refl }

@@ -1,4 +1,4 @@
--- Worked examples (docs/CARD.md, "Worked examples"), proved: the bench card; of the others some digits, one cubic prediction, the carries and the
+-- Worked examples (docs/CARD.md, "Worked examples"), proved: the bench card, and a finer one beside it; of the others some digits, one cubic prediction, the carries and the
 -- figures of a card with narrow layers.
 use mathlib.Core.List.{List, [], _∷_, _++_}
 use mathlib.Core.Path.{_≡_}
@@ -23,6 +23,7 @@ use Rattle.figure.specs.Bounding.{Bounding, bounding}
 use Rattle.planner.specs.Planning.{Planning, byLimit, byCells, cellsIn, figureIn}
 use Rattle.planner.specs.Planning as N
 use Rattle.roll.specs.Rolling.{rolling}
+use Rattle.compare.specs.Comparing.{Lent, lent, comparing}
 
 -- one row of five samples, one level, linear, step 1
 abbrev pub shape : Shape
@@ -51,6 +52,21 @@ card = text ++ (cell 4 ++ (cell 4 ++ (cell 7 ++ (cell 5 ++ (cell 1 ++ cell 1))))
 -- the plan that loads a, b and c planes of the three layers
 abbrev pub threeLayers : ℕ → ℕ → ℕ → Plan
 threeLayers a b c = record { planes = a ∷ b ∷ c ∷ replicate (layersMost - 3) 0 }
+
+-- a finer card of the same hour, but for its last sample: one level, cubic, step 0
+abbrev pub fineSamples : List ℤ
+fineSamples = pos 10 ∷ pos 13 ∷ pos 11 ∷ pos 20 ∷ pos 38 ∷ []
+
+abbrev pub fineCoefficients : List ℤ
+fineCoefficients = pos 10 ∷ pos 3 ∷ pos 11 ∷ negsuc 3 ∷ pos 38 ∷ []
+
+abbrev pub fineText : List ℕ
+fineText = ascii "rows=1\ncols=5\nlevels=1\ncurve=cubic\nstep=0\nplanes=7,4,0\ncells=11\n"
+
+abbrev pub fineCard : List ℕ
+fineCard =
+    fineText
+    ++ (cell 4 ++ (cell 4 ++ (cell 7 ++ (cell 7 ++ (cell 2 ++ (cell 3 ++ (cell 3 ++ (cell 7 ++ (cell 1 ++ (cell 2 ++ cell 1))))))))))
 
 -- slices of five numbers
 pub record Five (qs vs : List ℤ) : Type 0 where
@@ -102,6 +118,33 @@ pub record Bench : Type 0 where
       ≡ record {
         shown = showing qs vs (take 160 card);
         page = ascii "                      10\n   0   0              12\n   0   1              12\n   0   2              12\n   0   3              24\n   0   4              36\n" ++ drop 150 page;
+      }
+  -- the finer card; compared with the bench card, it is apart in the last point
+  pub fineWritten : (qs vs : List ℤ) (out : List ℕ) → Five qs vs → outputLeast ≤ length out
+      → writing fineSamples shape Cubic 0 qs vs out
+      ≡ record { refused = refusal 0 0 0; long = 416; coefficients = fineCoefficients; values = fineSamples; output = fineCard ++ drop 416 out }
+  pub apart : (one two : Lent) (bytes : List ℕ) → Five (one .coefficients) (one .values) → Five (two .coefficients) (two .values) → length bytes ≡ 5
+      → comparing one two bytes card fineCard
+      ≡ record {
+        refused = refusal 0 0 0;
+        number = 1;
+        row = 0;
+        column = 4;
+        first = lent coefficients values;
+        second = lent fineCoefficients fineSamples;
+        apart = 0 ∷ 0 ∷ 0 ∷ 0 ∷ 1 ∷ [];
+      }
+  -- and where the bench card is pulled at byte 160, behind three planes of its anchors, all points agree
+  pub agreed : (one two : Lent) (bytes : List ℕ) → Five (one .coefficients) (one .values) → Five (two .coefficients) (two .values) → length bytes ≡ 5
+      → comparing one two bytes (take 160 card) fineCard
+      ≡ record {
+        refused = refusal 0 0 0;
+        number = 0;
+        row = 0;
+        column = 0;
+        first = lent (pos 4 ∷ pos 0 ∷ pos 4 ∷ pos 0 ∷ pos 12 ∷ []) (pos 12 ∷ pos 12 ∷ pos 12 ∷ pos 24 ∷ pos 36 ∷ []);
+        second = lent fineCoefficients fineSamples;
+        apart = 0 ∷ 0 ∷ 0 ∷ 0 ∷ 0 ∷ [];
       }
   -- at byte 159 the third plane is not whole
   pub at159 : (qs vs : List ℤ) → Five qs vs → (showing qs vs (take 159 card) .plan ≡ threeLayers 2 0 0) × (showing qs vs (take 159 card) .figure ≡ 19)

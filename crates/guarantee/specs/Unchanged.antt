@@ -13,7 +13,8 @@ use Rattle.card.specs.Writing.{Writing, writing}
 use Rattle.card.specs.Reading.{Reading, reading, showing}
 use Rattle.card.specs.Refining.{refining}
 use Rattle.roll.specs.Rolling.{Rolling, rolling}
-use Rattle.trace_card.specs.Boundary.{answerLength, AfterWriting, AfterReading, AfterRolling, wrote, left, printedOn, asked, writeCall, readCall, showCall, refineCall, rollCall, figureCall, limitCall, cellsCall}
+use Rattle.compare.specs.Comparing.{Lent, Comparing, comparing}
+use Rattle.trace_card.specs.Boundary.{answerLength, AfterWriting, AfterReading, AfterRolling, AfterComparing, wrote, left, printedOn, marked, asked, writeCall, readCall, showCall, refineCall, rollCall, compareCall, figureCall, limitCall, cellsCall}
 
 -- 0 is the number of no refusal
 abbrev pub Refused : ℕ → Type 0
@@ -33,6 +34,11 @@ pub record KeptByRolling (qs vs : List ℤ) (paper : List ℕ) (r : Rolling) : T
   pub slices : KeptByReading qs vs (r .shown)
   pub page : Refused (r .shown .refused .number) → r .page ≡ paper
 
+pub record KeptByComparing (one two : Lent) (bytes : List ℕ) (c : Comparing) : Type 0 where
+  pub first : Refused (c .refused .number) → c .first ≡ one
+  pub second : Refused (c .refused .number) → c .second ≡ two
+  pub apart : Refused (c .refused .number) → c .apart ≡ bytes
+
 -- and so of a C function, by the number that it returned
 pub record KeptByWrite (qs vs : List ℤ) (out : List ℕ) (a : AfterWriting) : Type 0 where
   pub coefficients : Refused (a .returned) → a .coefficients ≡ qs
@@ -47,7 +53,12 @@ pub record KeptByRoll (qs vs : List ℤ) (paper : List ℕ) (a : AfterRolling) :
   pub slices : KeptByRead qs vs (a .read)
   pub page : Refused (a .read .returned) → a .page ≡ paper
 
--- ---- the eight C functions. `answer` is the call's report, which a refused call fills too
+pub record KeptByCompare (one two : Lent) (bytes : List ℕ) (a : AfterComparing) : Type 0 where
+  pub first : Refused (a .returned) → a .first ≡ one
+  pub second : Refused (a .returned) → a .second ≡ two
+  pub apart : Refused (a .returned) → a .apart ≡ bytes
+
+-- ---- the nine C functions. `answer` is the call's report, which a refused call fills too
 pub record UnchangedThroughC : Type 0 where
   pub write : (xs : List ℤ) (rows cols levels curve step : ℕ) (qs vs : List ℤ) (out answer : List ℕ)
       → KeptByWrite qs vs out (writeCall xs rows cols levels curve step qs vs out answer)
@@ -55,6 +66,7 @@ pub record UnchangedThroughC : Type 0 where
   pub show : (qs vs : List ℤ) (answer card : List ℕ) → KeptByRead qs vs (showCall qs vs answer card)
   pub refine : (qs vs : List ℤ) (answer card plan : List ℕ) (layer : ℕ) → KeptByRead qs vs (refineCall qs vs answer card plan layer)
   pub roll : (qs vs : List ℤ) (page answer card : List ℕ) → KeptByRoll qs vs page (rollCall qs vs page answer card)
+  pub compare : (one two : Lent) (apart answer first second : List ℕ) → KeptByCompare one two apart (compareCall one two apart answer first second)
   -- where `answer` or a plan has a wrong length there is no report: nothing at all is written, and 3 is returned
   pub unwritten : (xs : List ℤ) (rows cols levels curve step : ℕ) (qs vs : List ℤ) (out answer : List ℕ) → (length answer ≡ answerLength → ⊥)
       → writeCall xs rows cols levels curve step qs vs out answer ≡ wrote 3 answer qs vs out
@@ -64,6 +76,8 @@ pub record UnchangedThroughC : Type 0 where
   pub unrefined : (qs vs : List ℤ) (answer card plan : List ℕ) (layer : ℕ) → ((length answer ≡ answerLength) × (length plan ≡ layersMost) → ⊥)
       → refineCall qs vs answer card plan layer ≡ left 3 answer qs vs
   pub unrolled : (qs vs : List ℤ) (page answer card : List ℕ) → (length answer ≡ answerLength → ⊥) → rollCall qs vs page answer card ≡ printedOn 3 answer qs vs page
+  pub uncompared : (one two : Lent) (apart answer first second : List ℕ) → (length answer ≡ answerLength → ⊥)
+      → compareCall one two apart answer first second ≡ marked 3 answer one two apart
   pub unbounded : (card plan answer : List ℕ) → ((length answer ≡ answerLength) × (length plan ≡ layersMost) → ⊥) → figureCall card plan answer ≡ asked 3 answer
   pub unplanned-limit : (card : List ℕ) (limit : ℕ) (answer : List ℕ) → (length answer ≡ answerLength → ⊥) → limitCall card limit answer ≡ asked 3 answer
   pub unplanned-cells : (card : List ℕ) (cells : ℕ) (answer : List ℕ) → (length answer ≡ answerLength → ⊥) → cellsCall card cells answer ≡ asked 3 answer
@@ -76,4 +90,5 @@ pub record Unchanged : Type 0 where
   pub show : (qs vs : List ℤ) (bs : List ℕ) → KeptByReading qs vs (showing qs vs bs)
   pub refine : (qs vs : List ℤ) (bs : List ℕ) (plan : Plan) (k : ℕ) → KeptByReading qs vs (refining qs vs bs plan k)
   pub roll : (qs vs : List ℤ) (page bs : List ℕ) → KeptByRolling qs vs page (rolling qs vs page bs)
+  pub compare : (one two : Lent) (apart first second : List ℕ) → KeptByComparing one two apart (comparing one two apart first second)
   pub through-c : UnchangedThroughC

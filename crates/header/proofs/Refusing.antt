@@ -78,7 +78,7 @@ refused-blank trailing n = refl
 -- ---- the code's answer
 -- every variant but the first is a refusal
 abbrev refusals : List ℕ
-refusals = 1 ∷ 2 ∷ 3 ∷ 4 ∷ 5 ∷ 6 ∷ 7 ∷ 8 ∷ 9 ∷ 10 ∷ 11 ∷ 12 ∷ []
+refusals = 1 ∷ 2 ∷ 3 ∷ 4 ∷ 5 ∷ 6 ∷ 7 ∷ 8 ∷ 9 ∷ 10 ∷ 11 ∷ 12 ∷ 13 ∷ []
 
 pub refusing : (r : Refusal) → OneOf refusals (tagOf the-type r) → detailsOf r .number ≡ 0 → ⊥
 refusing R.Accepted k e = miss refusals 0 tt k
@@ -94,6 +94,7 @@ refusing (R.BadPlan place) k e = omega arith
 refusing R.LimitBelowStep k e = omega arith
 refusing R.BadCoefficient k e = omega arith
 refusing R.ShortPage k e = omega arith
+refusing R.SizesDiffer k e = omega arith
 
 -- and beside the first the header is right
 module _ (bs : List ℕ) (o : Opened) (e : asOpening o ≡ opening bs) (yes : o .refusal ≡ R.Accepted) where

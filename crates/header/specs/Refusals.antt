@@ -22,3 +22,4 @@ detailsOf (R.BadPlan place) = refusal 9 place 0
 detailsOf R.LimitBelowStep = refusal 10 0 0
 detailsOf R.BadCoefficient = refusal 11 0 0
 detailsOf R.ShortPage = refusal 12 0 0
+detailsOf R.SizesDiffer = refusal 13 0 0

@@ -50,6 +50,7 @@ pub enum Refusal {
     LimitBelowStep,
     BadCoefficient,
     ShortPage,
+    SizesDiffer,
 }
 
 // A refusal by number, with two details.
@@ -153,6 +154,11 @@ pub fn details_of(refusal: Refusal) -> Details
         },
         Refusal::ShortPage => Details {
             number: 12,
+            first: 0,
+            second: 0,
+        },
+        Refusal::SizesDiffer => Details {
+            number: 13,
             first: 0,
             second: 0,
         },

@@ -8,5 +8,6 @@ pub mod HalfBytes
 pub mod ZeroBits
 pub mod SlotTests
 pub mod WordSums
+pub mod Turns
 pub mod ReadWords
 pub mod Loads

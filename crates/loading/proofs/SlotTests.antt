@@ -7,7 +7,7 @@ use native.Mathlib.Omega.{arith}
 use borrow.Author.Tests.{lt-ltb, le-ltb, le-leb, lt-leb, ltb-true, eqb-true}
 use lib.Dec.{ltb, eqb}
 use lib.ListN.{length}
-use Rattle.integers.proofs.Bools.{by, and-left, or-cases}
+use Rattle.integers.proofs.Bools.{by, and-left, and-no-right, or-cases}
 use Rattle.header.specs.Header.{cellPoints}
 use Rattle.loading.specs.InBytes.{bitAt, clean, hasOne, fineBits, amongTop}
 use Rattle.loading.specs.Workings.Words.{slotFine, slotWords, wordsWith}
@@ -54,25 +54,27 @@ module _ (count want p : ℕ) where
   asked-out a = rw (le-ltb p count a)
 
 -- ---- one slot
-module _ (bs : List ℕ) (from n c count want p : ℕ) (ws : List ℕ) (start : ℕ) where
-  abbrev Both : Bool → List ℕ → Type 0
-  Both f vs = (slotFine bs from n c count want p ≡ f) × (slotWords bs from n c count want p ws start ≡ vs)
+module _ (bs : List ℕ) (from n c count want p : ℕ) where
+  pub fine-none : amongTop count want p ≡ false → slotFine bs from n c count want p ≡ true
+  unfolding slotFine
+  fine-none a = rw a
 
-  pub slot-none : amongTop count want p ≡ false → Both true ws
-  unfolding slotWords slotFine
-  slot-none a = (rw a, rw a)
+  pub fine-asked : amongTop count want p ≡ true → slotFine bs from n c count want p ≡ fineBits (bitAt bs from) n c (eqb (suc p) count)
+  unfolding slotFine
+  fine-asked a = rw a
 
-  pub slot-bad : amongTop count want p ≡ true → fineBits (bitAt bs from) n c (eqb (suc p) count) ≡ false → Both false ws
-  unfolding slotWords slotFine
-  slot-bad a f = (rw (a, f), rw (a, f))
+  module _ (ws : List ℕ) (start : ℕ) where
+    pub slot-none : amongTop count want p ≡ false → slotWords bs from n c count want p ws start ≡ ws
+    unfolding slotWords
+    slot-none a = rw a
 
-  pub slot-good : amongTop count want p ≡ true → fineBits (bitAt bs from) n c (eqb (suc p) count) ≡ true → Both true (wordsWith ws start (cellPoints * c) p (bitAt bs from))
-  unfolding slotWords slotFine
-  slot-good a f = (rw (a, f), rw (a, f))
+    pub slot-bad : slotFine bs from n c count want p ≡ false → slotWords bs from n c count want p ws start ≡ ws
+    unfolding slotWords
+    slot-bad f = rw (and-no-right (amongTop count want p) (slotFine bs from n c count want p) f)
 
-  pub slot-adds : amongTop count want p ≡ true → slotFine bs from n c count want p ≡ true → slotWords bs from n c count want p ws start ≡ wordsWith ws start (cellPoints * c) p (bitAt bs from)
-  unfolding slotWords
-  slot-adds a f = rw (a, f)
+    pub slot-adds : amongTop count want p ≡ true → slotFine bs from n c count want p ≡ true → slotWords bs from n c count want p ws start ≡ wordsWith ws start (cellPoints * c) p (bitAt bs from)
+    unfolding slotWords
+    slot-adds a f = rw (a, f)
 
 -- ---- equal numbers give equal answers
 module _ (bs : List ℕ) {from from′ n n′ c c′ : ℕ} (a : from ≡ from′) (b : n ≡ n′) (d : c ≡ c′) (count want p : ℕ) where

@@ -232,4 +232,4 @@ module _ (h : Header) (long : ℕ) (bs : List ℕ) (plan : ℕ → ℕ) where
         rw on
         (by (amongTop (planesOf h k) (plan k) p)
         (λ a. rw (e ∙ slot-adds bs from (layerSize (h .shape) k) (planeCells (h .shape) k) (planesOf h k) (plan k) p ws (blockStart (h .shape) k) a f) (partly-more a))
-        (λ a. rw (e ∙ slot-none bs from (layerSize (h .shape) k) (planeCells (h .shape) k) (planesOf h k) (plan k) p ws (blockStart (h .shape) k) a .1) (partly-same a)))
+        (λ a. rw (e ∙ slot-none bs from (layerSize (h .shape) k) (planeCells (h .shape) k) (planesOf h k) (plan k) p ws (blockStart (h .shape) k) a) (partly-same a)))

@@ -14,6 +14,7 @@ ghost use Rattle.loading.specs.Workings.Calls as C;
 use crate::Loaded;
 use crate::Whole;
 use crate::spreading::spread;
+use crate::walking::check_body;
 use crate::walking::load_body;
 use header::Header;
 use header::Plan;
@@ -116,8 +117,7 @@ pub fn examine(bytes: &[u8], header: Header, at: usize, coefficients: &[i32]) ->
         return Refusal::BadLengths;
     }
     let all = order::whole_planes(header, bytes.len() - at);
-    let mut words = [0u32; MOST_WORDS];
-    match load_body(bytes, at, header, all, &mut words) {
+    match check_body(bytes, at, header, all) {
         Loaded::Bad(layer) => Refusal::BadPlane(layer as u64),
         Loaded::Fine => Refusal::Accepted,
     }

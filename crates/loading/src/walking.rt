@@ -80,6 +80,38 @@ pub(crate) fn is_fine(bytes: &[u8], from: usize, n: usize, cells: usize, top: bo
     true
 }
 
+// Is the plane at place p one of the top `want` of `count`?
+fn is_among_top(count: u64, want: u64, p: u64) -> bool
+    ensures { λ r. ⌜ r ≡ L.amongTop count want p ⌝ }
+{
+    if count <= p {
+        return false;
+    }
+    if want < count - p {
+        return false;
+    }
+    true
+}
+
+// Is one plane of a layer with `count` planes, of which `want` are loaded, fine where it is one of them?
+fn check_slot(
+    bytes: &[u8],
+    from: usize,
+    n: usize,
+    cells: usize,
+    count: u64,
+    want: u64,
+    p: u64,
+) -> bool
+    requires { ⌜ (p < Hd.placesMost) × (n ≤ Hd.cellPoints * cells) × (cells ≤ wordsMost) × (L.amongTop count want p ≡ true → from + Hd.cellBytes * cells ≤ length (now bytes)) ⌝ }
+    ensures { λ r. ⌜ r ≡ W.slotFine (now (bytes .entry)) from n cells count want p ⌝ }
+{
+    if !is_among_top(count, want, p) {
+        return true;
+    }
+    is_fine(bytes, from, n, cells, p + 1 == count)
+}
+
 // One plane of a layer with `count` planes of which `want` are loaded: checked and added where it is one of them; its spare bytes, which are 0, are
 // passed over. False where it is not fine.
 fn load_slot(
@@ -94,18 +126,15 @@ fn load_slot(
     words: &mut [u32],
     start: usize,
 ) -> bool
-    requires { ⌜ (p < Hd.placesMost) × (count ≤ Hd.placesMost) × (n ≤ Hd.cellPoints * cells) × (cells ≤ wordsMost) × (start + Hd.cellPoints * cells ≤ length (now words)) × (now table ≡ W.halves p) ⌝ }
+    requires { ⌜ (p < Hd.placesMost) × (n ≤ Hd.cellPoints * cells) × (cells ≤ wordsMost) × (start + Hd.cellPoints * cells ≤ length (now words)) × (now table ≡ W.halves p) ⌝ }
     requires { ⌜ (L.amongTop count want p ≡ true → from + Hd.cellBytes * cells ≤ length (now bytes)) × ((i : ℕ) → getD (now words) i 0 < 2 ^ 31) ⌝ }
     ensures { λ r. ⌜ (r ≡ W.slotFine (now (bytes .entry)) from n cells count want p) × (now (words .exit) ≡ W.slotWords (now (bytes .entry)) from n cells count want p (now (words .entry)) start) ⌝ }
 {
-    if count <= p {
-        return true;
-    }
-    if want < count - p {
-        return true;
-    }
-    if !is_fine(bytes, from, n, cells, p + 1 == count) {
+    if !check_slot(bytes, from, n, cells, count, want, p) {
         return false;
+    }
+    if !is_among_top(count, want, p) {
+        return true;
     }
     add_bytes(bytes, from, (n + 7) / 8, table, words, start);
     true
@@ -120,6 +149,59 @@ fn sizes_of(shape: Shape) -> [usize; MOST_LAYERS]
         sizes[k] = sheet::layer_size(shape, k);
     }
     sizes
+}
+
+// The planes at place p, layer after layer, each checked where the plan has it, until one is not fine. `before` cells stand before them.
+fn check_place(
+    bytes: &[u8],
+    at: usize,
+    header: Header,
+    plan: Plan,
+    sizes: [usize; MOST_LAYERS],
+    spans: [u64; MOST_LAYERS],
+    p: u64,
+    before: usize,
+) -> Placed
+    requires { ⌜ (O.wellFormed header ≡ true) × (at ≤ length (now bytes)) × (p < Hd.placesMost) × (before ≡ K.cellsBefore header 0 p) ⌝ }
+    requires { ⌜ (sizes ≡ tabulate layersMost (sizeAt (header .shape))) × (spans ≡ Wk.spansOf (header .shape)) × W.AllThere header at (now bytes) (N.loads plan) ⌝ }
+    ensures { λ r. ⌜ W.PlaceChecked header at (now (bytes .entry)) (N.loads plan) p r ⌝ }
+{
+    let layers = sheet::layer_count(header.shape);
+    let mut cells = before;
+    for k in 0..layers {
+        let n = sizes[k];
+        let span = spans[k];
+        let count = header.planes[k];
+        let want = plan.planes[k];
+        let from = at + CELL_BYTES * cells;
+        if !check_slot(bytes, from, n, span as usize, count, want, p) {
+            return Placed::Bad(k);
+        }
+        cells += order::span_at(span, count, p) as usize;
+    }
+    Placed::Fine(cells)
+}
+
+// The planes of a plan in card order, each checked, until one is not fine.
+pub(crate) fn check_body(bytes: &[u8], at: usize, header: Header, plan: Plan) -> Loaded
+    requires { ⌜ (O.wellFormed header ≡ true) × (at ≤ length (now bytes)) × W.AllThere header at (now bytes) (N.loads plan) ⌝ }
+    ensures { λ r. ⌜ r ≡ W.loadedAs header at (now (bytes .entry)) (N.loads plan) ⌝ }
+{
+    let sizes = sizes_of(header.shape);
+    let spans = header.spans();
+    let mut cells: usize = 0;
+    for t in 0..PLACES {
+        let p = (LAST_PLACE - t) as u64;
+        match check_place(bytes, at, header, plan, sizes, spans, p, cells) {
+            Placed::Bad(layer) => {
+                return Loaded::Bad(layer);
+            }
+            Placed::Fine(next) => {
+                cells = next;
+            }
+        }
+    }
+    Loaded::Fine
 }
 
 // The planes at place p, layer after layer, each checked and added to the words where the plan has it, until one is not fine. `before` cells stand

@@ -1,30 +1,27 @@
 -- The call, by what each step answers: a page that is too short for the sheet, a card that is refused, or the lines at the front of the page.
 use mathlib.Core.List.{List, _++_}
-use mathlib.Core.Path.{_≡_, refl, sym, ap, _∙_}
+use mathlib.Core.Path.{_≡_, sym, ap, _∙_}
 use Prim.Native.Nat.{ℕ, _+_, _*_, _<_, _≤_}
 use native.Mathlib.Omega.{arith}
 use borrow.Author.Tests.{eqb-true, eqb-false}
-use lib.Dec.{eqb, ltb}
+use lib.Dec.{eqb}
 use lib.IntN.{ℤ}
 use lib.ListN.{length, drop}
 use lib.Seq.{sets, sets-eq}
-use Rattle.integers.proofs.Bools.{by, choice}
+use Rattle.integers.proofs.Bools.{by}
 use Rattle.sheet.specs.declared.Shape.{Shape}
 use Rattle.sheet.specs.Limits.{pointsMost}
 use Rattle.sheet.specs.Sheet.{accepted, points}
 use Rattle.sheet.specs.Workings.Shapes.{pointsIn}
 use Rattle.sheet.proofs.Accepting.{accepted-yes}
-use Rattle.header.specs.declared.Details.{Details}
 use Rattle.header.specs.declared.Opened.{Opened}
 use Rattle.header.specs.Refusals.{refusal, detailsOf}
-use Rattle.header.specs.Plan.{loads}
 use Rattle.header.specs.Opening.{Opening, opening}
 use Rattle.header.specs.Opening as O
 use Rattle.header.proofs.OpenedSize.{opened-small}
-use Rattle.order.specs.CardOrder.{slots, wholeOf}
-use Rattle.loading.specs.InBytes.{firstBad}
 use Rattle.card.specs.declared.Reached.{Reached}
-use Rattle.card.specs.Reading.{Reading, notRead, unless, firstRefusal, readOpened, showing, asReading}
+use Rattle.card.specs.Reading.{Reading, showing, asReading}
+use Rattle.card.proofs.Bare.{showing-bare}
 use Rattle.roll.specs.Page.{linePlaces, pageText, pageLength}
 use Rattle.roll.specs.Rolling.{printed, rolling, asRolling}
 use Rattle.roll.specs.Workings.{Printable, onShort}
@@ -36,24 +33,6 @@ use Rattle.roll.proofs.Rolled.{rolling-refused, rolling-short, rolling-
 pub points-few : (sh : Shape) → pointsIn sh ≤ pointsMost
 unfolding pointsIn
 points-few sh = by (accepted sh) (λ y. rw y (accepted-yes sh y .small)) (λ n. rw n (omega arith))
-
--- ---- a reading that is refused is nothing but the refusal
-module _ (qs vs : List ℤ) where
-  abbrev Bare : Reading → Type 0
-  Bare r = (r .refused .number ≡ 0 → ⊥) → notRead qs vs (r .refused) ≡ r
-
-  unless-bare : (d : Details) (go : Reading) → Bare go → Bare (unless qs vs d go)
-  unless-bare d go bare = choice Bare (eqb (d .number) 0) (λ _. bare) (λ _ _. refl)
-
-  showing-bare : (bs : List ℕ) → Bare (showing qs vs bs)
-  unfolding showing readOpened
-  showing-bare bs =
-      let h = opening bs .header in
-      let long = opening bs .long in
-      let plan = wholeOf bs h long in
-      unless-bare (opening bs .refused) _
-      (unless-bare (firstRefusal qs vs h plan plan) _
-      (choice Bare (ltb (firstBad h long bs (loads plan)) (slots h)) (λ _ _. refl) (λ _ refused. absurd (refused refl))))
 
 -- ---- the call
 module _ (qs vs : List ℤ) (page bs : List ℕ) (o : Opened) (e : O.asOpening o ≡ opening bs) where

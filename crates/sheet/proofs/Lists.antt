@@ -117,6 +117,11 @@ unfolding count
 count-same t u zero h = refl
 count-same t u (suc n) h = rw (h n (le-refl (suc n)), count-same t u n (λ i l. h i (omega arith)))
 
+pub nth-same : (t u : ℕ → Bool) (n i : ℕ) → ((j : ℕ) → j < n → t j ≡ u j) → nth t n i ≡ nth u n i
+unfolding nth
+nth-same t u zero i h = refl
+nth-same t u (suc n) i h = rw (h n (omega arith), count-same t u n (λ j l. h j (omega arith)), nth-same t u n i (λ j l. h j (omega arith)))
+
 -- two tests that never pass together, and a third that passes where either does
 pub count-either : (t u v : ℕ → Bool) (n : ℕ) → ((i : ℕ) → i < n → t i ≡ true → u i ≡ false) → ((i : ℕ) → i < n → v i ≡ t i || u i) → count v n ≡ count t n + count u n
 unfolding count

@@ -14,9 +14,11 @@ use Rattle.card.specs.declared.Written.{Written}
 use Rattle.card.specs.Reading as R
 use Rattle.card.specs.Writing as W
 use Rattle.roll.specs.Rolling.{asRolling}
+use Rattle.compare.specs.declared.Compared.{Compared}
+use Rattle.compare.specs.Comparing.{Lent, asComparing}
 use Rattle.planner.specs.declared.Planned.{Planned}
 use Rattle.planner.specs.Planning as N
-use Rattle.trace_card.specs.Boundary.{numbers, nothing, wrote, writtenAs, left, readAs, printedOn, rolledAs, asked, boundedAs, plannedAs}
+use Rattle.trace_card.specs.Boundary.{numbers, nothing, wrote, writtenAs, left, readAs, printedOn, rolledAs, columnFirst, marked, comparedAs, asked, boundedAs, plannedAs}
 
 -- the numbers of equal details
 pub details-same : (d e : Details) → d ≡ e → (r size figure : ℕ) (a plan : List ℕ) → r ≡ d .number → a ≡ numbers d size figure plan
@@ -36,6 +38,10 @@ reached-told t r a qs vs x y = λ i. left (x i) (y i) qs vs
 pub rolled-told : (t : Reached) (r : ℕ) (a : List ℕ) (qs vs : List ℤ) (page : List ℕ) → r ≡ detailsOf (t .refusal) .number
     → a ≡ numbers (detailsOf (t .refusal)) 0 (t .figure) (t .plan .planes) → printedOn r a qs vs page ≡ rolledAs (asRolling t qs vs page)
 rolled-told t r a qs vs page x y = λ i. printedOn (x i) (y i) qs vs page
+
+pub compared-told : (c : Compared) (r : ℕ) (a : List ℕ) (one two : Lent) (apart : List ℕ) → r ≡ detailsOf (c .refusal) .number
+    → a ≡ numbers (detailsOf (c .refusal)) (c .number) (c .row) (columnFirst (c .column)) → marked r a one two apart ≡ comparedAs (asComparing c one two apart)
+compared-told c r a one two apart x y = λ i. marked (x i) (y i) one two apart
 
 pub bounded-told : (b : Bounded) (d : Details) → d ≡ detailsOf (b .refusal) → (r : ℕ) (a plan shown : List ℕ)
     → shown ≡ cond (eqb (d .number) 0) plan nothing → r ≡ d .number → a ≡ numbers d 0 (b .figure) shown → asked r a ≡ boundedAs (asBounding b) plan

@@ -19,9 +19,10 @@ use Rattle.card.specs.Reading.{Reading, reading, showing}
 use Rattle.card.specs.Refining.{refining}
 use Rattle.planner.specs.Planning.{Planning, byLimit, byCells}
 use Rattle.roll.specs.Rolling.{Rolling, rolling}
+use Rattle.compare.specs.Comparing.{Lent, Comparing, comparing}
 
 -- ---- the answer "has 24 numbers: [0] the refusal's number, [1] and [2] its details, [3] the card's length (write) or the plan's cells (planning),
--- [4] the figure, [5] to [17] the plan that was reached, given or found; what a call does not answer is 0"
+-- [4] the figure, [5] to [17] the plan that was reached, given or found .. What a call does not answer is 0"
 abbrev pub answerLength : ℕ
 answerLength = 24
 
@@ -127,6 +128,35 @@ rolledAs r = record { read = readAs (r .shown); page = r .page }
 
 unfoldable pub rollCall : List ℤ → List ℤ → List ℕ → List ℕ → List ℕ → AfterRolling
 rollCall qs vs page answer card = cond (answerable answer) (rolledAs (rolling qs vs page card)) (printedOn 3 answer qs vs page)
+
+-- ---- comparing: "[3] the number of points apart, [4] row and [5] column of the first"
+pub record AfterComparing : Type 0 where
+  pub returned : ℕ
+  pub answer : List ℕ
+  pub first : Lent
+  pub second : Lent
+  pub apart : List ℕ
+
+abbrev pub marked : ℕ → List ℕ → Lent → Lent → List ℕ → AfterComparing
+marked r a one two apart = record { returned = r; answer = a; first = one; second = two; apart = apart }
+
+-- the row stands where other calls have the figure, and the column where their plan begins
+abbrev pub columnFirst : ℕ → List ℕ
+columnFirst column = column ∷ replicate (layersMost - 1) 0
+
+abbrev pub comparedAs : Comparing → AfterComparing
+comparedAs c =
+    record {
+      returned = c .refused .number;
+      answer = numbers (c .refused) (c .number) (c .row) (columnFirst (c .column));
+      first = c .first;
+      second = c .second;
+      apart = c .apart;
+    }
+
+unfoldable pub compareCall : Lent → Lent → List ℕ → List ℕ → List ℕ → List ℕ → AfterComparing
+compareCall one two apart answer first second =
+    cond (answerable answer) (comparedAs (comparing one two apart first second)) (marked 3 answer one two apart)
 
 -- ---- the figure of a plan, and planning
 pub record AfterAsking : Type 0 where

@@ -1,6 +1,7 @@
 // The C boundary: the calls with numbers and slices alone, as include/trace_card.h has them.
 mod answer;
 mod bounding;
+mod comparing;
 mod planning;
 mod reading;
 mod rolling;

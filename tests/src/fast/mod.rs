@@ -3,6 +3,7 @@
 //! proved calls beside them; the tests hold them to the model first.
 
 mod card;
+mod compare;
 mod header;
 mod layers;
 mod planes;
@@ -10,6 +11,7 @@ mod planner;
 mod roll;
 
 pub use card::{refine, show, write};
+pub use compare::compare;
 pub use planner::{plan_by_cells, plan_by_limit};
 pub use roll::roll;
 

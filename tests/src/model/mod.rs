@@ -1,6 +1,7 @@
-//! The model, one file for each idea of docs/CARD.md. All but the roll, the program trace and what narrow layers carry was
-//! written before that document, from the customer's request; none of it shares code or structure with the proved side.
+//! The model, one file for each idea of docs/CARD.md. All but the roll, comparing, the program trace and what narrow layers carry
+//! was written before that document, from the customer's request; none of it shares code or structure with the proved side.
 
+pub mod compare;
 pub mod digits;
 pub mod figure;
 pub mod header;
@@ -16,6 +17,7 @@ pub mod sheet;
 pub mod steps;
 pub mod write;
 
+pub use compare::{compare, Compared};
 pub use figure::figure;
 pub use header::{open, Opened};
 pub use plan::{Plan, MAX_LAYERS};

@@ -24,6 +24,8 @@ pub const LIMIT: u64 = 10;
 pub const COEFFICIENT: u64 = 11;
 /// A page too short for the lines of a roll.
 pub const PAGE: u64 = 12;
+/// Two cards of different sizes.
+pub const SIZES: u64 = 13;
 
 #[derive(Clone, Copy, Debug, PartialEq, Eq)]
 pub struct Refusal {

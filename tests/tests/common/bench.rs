@@ -1,8 +1,9 @@
 //! The bench card (docs/CARD.md, "Worked examples"), put together by hand, and what is said of it
-//! there.
+//! there; and a finer one of its size, to compare it with.
 
-use super::{card_of, plan};
-use trace_card_tests::model::{Planned, Reached};
+use super::{card_of, header_lines, plan};
+use trace_card_tests::model::{Compared, Curve, Planned, Reached};
+use trace_card_tests::random::cases::Case;
 
 /// One row; one level, linear, step 1.
 pub const SAMPLES: [i32; 5] = [10, 13, 11, 20, 30];
@@ -103,4 +104,50 @@ pub fn planned_by_limit() -> [(u64, Planned); 3] {
 /// Numbers of cells and what planning answers.
 pub fn planned_by_cells() -> [(u64, Planned); 1] {
     [(5, planned(&[5], 5, 4))]
+}
+
+/// Another row of five, which differs in the last column alone, on a finer card; one level, cubic, step 0.
+pub fn fine_sheet() -> Case {
+    Case {
+        rows: 1,
+        cols: 5,
+        levels: 1,
+        curve: Curve::Cubic,
+        step: 0,
+        samples: vec![10, 13, 11, 20, 38],
+    }
+}
+
+pub const FINE_HEADER_BYTES: usize = 64;
+pub const FINE_CARD_BYTES: usize = 416;
+
+/// Its card. By hand: the anchors have the coefficients 10, 11 and 38. No point across has four
+/// neighbours: column 1 is predicted as (10 + 11) / 2 = 10, so q = 3, and column 3 as (11 + 38) / 2 = 24,
+/// so q = -4. Digits, highest first: 10 is 11110, 11 is 11111, 38 is 1111010; 3 is 111, -4 is 1100. The
+/// planes are those of layer 0 at the places 6, 5 and 4, and from place 3 on of layers 0 and 1 in turn.
+pub fn fine_card() -> Vec<u8> {
+    let lines = header_lines((1, 5), 1, "cubic", 0, &[7, 4, 0], 11);
+    card_of(&lines, &[4, 4, 7, 7, 2, 3, 3, 7, 1, 2, 1])
+}
+
+/// Some first bytes of the bench card and of the finer one: what comparing them gives, and the marks.
+pub struct Comparison {
+    pub lengths: [usize; 2],
+    pub compared: Compared,
+    pub marks: [u8; 5],
+}
+
+/// Whole, the finer card shows its samples, with the figure 0. Beside the bench card's values 9, 13, 12, 21
+/// and 30 they are 1, 0, 1, 1 and 8 off, and the figure there is 1. Behind three planes of its anchors its
+/// values are 12, 12, 12, 24 and 36, which is 2, 1, 1, 4 and 2 off, with the figure 10.
+pub fn compared() -> [Comparison; 2] {
+    let comparison = |length, apart, first, marks| Comparison {
+        lengths: [length, FINE_CARD_BYTES],
+        compared: Compared { apart, first },
+        marks,
+    };
+    [
+        comparison(256, 1, [0, 4], [0, 0, 0, 0, 1]),
+        comparison(160, 0, [0, 0], [0; 5]),
+    ]
 }

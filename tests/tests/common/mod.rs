@@ -7,6 +7,7 @@
 pub mod bench;
 pub mod document;
 pub mod extremes;
+pub mod faults;
 pub mod files;
 pub mod narrow;
 pub mod page;

@@ -1,7 +1,8 @@
 //! The bench card, the narrow example and the ends (docs/CARD.md, "Worked examples"), by both.
 
 use super::both::{
-    figure, plan_by_cells, plan_by_limit, read, refine, roll, show, write, Slices, B,
+    compare, figure, plan_by_cells, plan_by_limit, read, refine, roll, show, write, written,
+    Slices, B,
 };
 use super::common::{bench, narrow, plan, refusal};
 use trace_card_tests::model::{Curve, Refusal};
@@ -60,6 +61,23 @@ fn its_cut_is_rolled() {
     assert_eq!(slices.values, shown.values);
     assert_eq!(slices.page[..150], *bench::ROLL.as_bytes());
     assert_eq!(slices.page[150..], [B; 7]);
+}
+
+#[test]
+fn it_is_compared() {
+    let cards = [bench::card(), written(&bench::fine_sheet())];
+    assert_eq!(cards[1], bench::fine_card());
+    for expected in bench::compared() {
+        let [first, second] = [0, 1].map(|card| &cards[card][..expected.lengths[card]]);
+        // The same where the cards change places.
+        for cards in [[first, second], [second, first]] {
+            let mut slices = [(); 2].map(|()| Slices::new(5));
+            let mut marks = vec![B; 5];
+            let compared = compare(cards, &mut slices, &mut marks);
+            assert_eq!(compared, Ok(expected.compared));
+            assert_eq!(marks, expected.marks);
+        }
+    }
 }
 
 /// From no planes to the three of the first 160 bytes.

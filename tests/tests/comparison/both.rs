@@ -7,7 +7,7 @@ use trace_card_tests::boundary::ANSWER;
 use trace_card_tests::lent::ROOMS;
 use trace_card_tests::model::roll::page_bytes;
 use trace_card_tests::model::write::OUTPUT_BYTES;
-use trace_card_tests::model::{self, Curve, Plan, Planned, Reached, Refusal};
+use trace_card_tests::model::{self, Compared, Curve, Plan, Planned, Reached, Refusal};
 use trace_card_tests::random::cases::Case;
 
 /// Numbers that no call leaves by chance, or bytes that it leaves seldom.
@@ -184,6 +184,39 @@ pub fn refine(
     slices: &mut Slices,
 ) -> Result<Reached, Refusal> {
     reach(Call::Refine { layer }, card, plan, slices)
+}
+
+/// Compares two cards in these slices, two for each of them and one for the marks, which are then as the
+/// call left them.
+pub fn compare(
+    cards: [&[u8]; 2],
+    slices: &mut [Slices; 2],
+    marks: &mut Vec<u8>,
+) -> Result<Compared, Refusal> {
+    let [first, second] = slices;
+    let mut memory = Memory {
+        card: cards[0].to_vec(),
+        second: cards[1].to_vec(),
+        coefficients: std::mem::take(&mut first.coefficients),
+        values: std::mem::take(&mut first.values),
+        second_coefficients: std::mem::take(&mut second.coefficients),
+        second_values: std::mem::take(&mut second.values),
+        apart: std::mem::take(marks),
+        answer: vec![A; ANSWER],
+        ..Memory::default()
+    };
+    check(Call::Compare, &mut memory);
+    first.coefficients = memory.coefficients;
+    first.values = memory.values;
+    second.coefficients = memory.second_coefficients;
+    second.values = memory.second_values;
+    *marks = memory.apart;
+    refusal_in(&memory.answer)?;
+    let [apart, row, col] = [3, 4, 5].map(|place| memory.answer[place]);
+    Ok(Compared {
+        apart,
+        first: [row, col],
+    })
 }
 
 /// The memory of a call that only answers.

@@ -17,6 +17,7 @@ pub enum Call {
     Read,
     Show,
     Roll,
+    Compare,
     Refine {
         layer: u64,
     },
@@ -25,18 +26,23 @@ pub enum Call {
     PlanByCells(u64),
 }
 
-/// Every slice that some function takes; one that a function does not take is not given to it.
+/// Every slice that some function takes; one that a function does not take is not given to it. Of the
+/// two cards of a comparison the first stands where others have their only one.
 #[derive(Clone, Debug, Default, PartialEq, Eq)]
 pub struct Memory {
     // Only read.
     pub samples: Vec<i32>,
     pub card: Vec<u8>,
+    pub second: Vec<u8>,
     pub plan: Vec<u64>,
     // Written to.
     pub coefficients: Vec<i32>,
     pub values: Vec<i64>,
+    pub second_coefficients: Vec<i32>,
+    pub second_values: Vec<i64>,
     pub output: Vec<u8>,
     pub page: Vec<u8>,
+    pub apart: Vec<u8>,
     pub answer: Vec<u64>,
 }
 
@@ -45,22 +51,30 @@ pub struct Memory {
 pub enum Slice {
     Samples,
     Card,
+    Second,
     Plan,
     Coefficients,
     Values,
+    SecondCoefficients,
+    SecondValues,
     Output,
     Page,
+    Apart,
     Answer,
 }
 
-pub const SLICES: [Slice; 8] = [
+pub const SLICES: [Slice; 12] = [
     Slice::Samples,
     Slice::Card,
+    Slice::Second,
     Slice::Plan,
     Slice::Coefficients,
     Slice::Values,
+    Slice::SecondCoefficients,
+    Slice::SecondValues,
     Slice::Output,
     Slice::Page,
+    Slice::Apart,
     Slice::Answer,
 ];
 
@@ -69,11 +83,15 @@ impl Memory {
         match slice {
             Slice::Samples => self.samples.len(),
             Slice::Card => self.card.len(),
+            Slice::Second => self.second.len(),
             Slice::Plan => self.plan.len(),
             Slice::Coefficients => self.coefficients.len(),
             Slice::Values => self.values.len(),
+            Slice::SecondCoefficients => self.second_coefficients.len(),
+            Slice::SecondValues => self.second_values.len(),
             Slice::Output => self.output.len(),
             Slice::Page => self.page.len(),
+            Slice::Apart => self.apart.len(),
             Slice::Answer => self.answer.len(),
         }
     }
@@ -83,11 +101,15 @@ impl Memory {
         match slice {
             Slice::Samples => self.samples.resize(length, 0),
             Slice::Card => self.card.resize(length, 0),
+            Slice::Second => self.second.resize(length, 0),
             Slice::Plan => self.plan.resize(length, 0),
             Slice::Coefficients => self.coefficients.resize(length, 0),
             Slice::Values => self.values.resize(length, 0),
+            Slice::SecondCoefficients => self.second_coefficients.resize(length, 0),
+            Slice::SecondValues => self.second_values.resize(length, 0),
             Slice::Output => self.output.resize(length, 0),
             Slice::Page => self.page.resize(length, 0),
+            Slice::Apart => self.apart.resize(length, 0),
             Slice::Answer => self.answer.resize(length, 0),
         }
     }
@@ -100,11 +122,15 @@ pub type Left = (u64, Memory);
 pub fn proved(call: Call, memory: &Memory, room: Room) -> Left {
     let samples = Lent::new(&memory.samples, room);
     let card = Lent::new(&memory.card, room);
+    let second = Lent::new(&memory.second, room);
     let plan = Lent::new(&memory.plan, room);
     let mut coefficients = Lent::new(&memory.coefficients, room);
     let mut values = Lent::new(&memory.values, room);
+    let mut second_coefficients = Lent::new(&memory.second_coefficients, room);
+    let mut second_values = Lent::new(&memory.second_values, room);
     let mut output = Lent::new(&memory.output, room);
     let mut page = Lent::new(&memory.page, room);
+    let mut apart = Lent::new(&memory.apart, room);
     let mut answer = Lent::new(&memory.answer, room);
     let returned = {
         let (samples, card, plan) = (samples.get(), card.get(), plan.get());
@@ -132,6 +158,16 @@ pub fn proved(call: Call, memory: &Memory, room: Room) -> Left {
             Call::Read => boundary::read(card, plan, coefficients, values, answer),
             Call::Show => boundary::show(card, coefficients, values, answer),
             Call::Roll => boundary::roll(card, coefficients, values, page, answer),
+            Call::Compare => boundary::compare(
+                card,
+                second.get(),
+                coefficients,
+                values,
+                second_coefficients.lend(),
+                second_values.lend(),
+                apart.lend(),
+                answer,
+            ),
             Call::Refine { layer } => {
                 boundary::refine(card, plan, layer, coefficients, values, answer)
             }
@@ -143,11 +179,15 @@ pub fn proved(call: Call, memory: &Memory, room: Room) -> Left {
     let left = Memory {
         samples: samples.take_back(),
         card: card.take_back(),
+        second: second.take_back(),
         plan: plan.take_back(),
         coefficients: coefficients.take_back(),
         values: values.take_back(),
+        second_coefficients: second_coefficients.take_back(),
+        second_values: second_values.take_back(),
         output: output.take_back(),
         page: page.take_back(),
+        apart: apart.take_back(),
         answer: answer.take_back(),
     };
     (returned, left)
@@ -165,11 +205,23 @@ pub fn differences(found: &Memory, expected: &Memory) -> Vec<String> {
     let wrong = [
         first_wrong("samples", &found.samples, &expected.samples),
         first_wrong("card", &found.card, &expected.card),
+        first_wrong("second", &found.second, &expected.second),
         first_wrong("plan", &found.plan, &expected.plan),
         first_wrong("coefficients", &found.coefficients, &expected.coefficients),
         first_wrong("values", &found.values, &expected.values),
+        first_wrong(
+            "second_coefficients",
+            &found.second_coefficients,
+            &expected.second_coefficients,
+        ),
+        first_wrong(
+            "second_values",
+            &found.second_values,
+            &expected.second_values,
+        ),
         first_wrong("output", &found.output, &expected.output),
         first_wrong("page", &found.page, &expected.page),
+        first_wrong("apart", &found.apart, &expected.apart),
         first_wrong("answer", &found.answer, &expected.answer),
     ];
     wrong.into_iter().flatten().collect()

@@ -1,7 +1,7 @@
 //! Damaged headers through every call but writing.
 
 use super::both::{
-    figure, plan_by_cells, plan_by_limit, read, refine, roll, show, written, Slices,
+    compare, figure, plan_by_cells, plan_by_limit, read, refine, roll, show, written, Slices, B,
 };
 use trace_card_tests::boundary::PLAN;
 use trace_card_tests::model::open;
@@ -9,13 +9,18 @@ use trace_card_tests::random::cases::Case;
 use trace_card_tests::random::damage::{damage_header, damaged_at};
 use trace_card_tests::random::Random;
 
-/// Every call on the same bytes, from no planes. Answers whether they open.
-fn every_call(card: &[u8], layer: u64, points: usize) -> bool {
+/// Every call on the same bytes, from no planes, and both ways of comparing them with the card as it was
+/// written. Answers whether they open.
+fn every_call(card: &[u8], fine: &[u8], layer: u64, points: usize) -> bool {
     let none = [0; PLAN];
     // Coefficients out of range are refusal 11; refining wants some that are not.
     let slices = Slices::holding(&vec![1; points]);
     let _ = show(card, &mut slices.clone());
     let _ = roll(card, &mut Slices::for_roll(points));
+    for cards in [[card, fine], [fine, card]] {
+        let mut slices = [(); 2].map(|()| Slices::new(points));
+        let _ = compare(cards, &mut slices, &mut vec![B; points]);
+    }
     let _ = read(card, &none, &mut slices.clone());
     let _ = refine(card, &none, layer, &mut slices.clone());
     for asked in [layer, 70_000, u64::MAX] {
@@ -40,12 +45,12 @@ fn headers_damaged_byte_by_byte() {
         let card = written(&case);
         for position in 0..open(&card).unwrap().header_length {
             for damaged in damaged_at(&card, position, &bytes) {
-                opened_anyway += u64::from(every_call(&damaged, 0, case.count()));
+                opened_anyway += u64::from(every_call(&damaged, &card, 0, case.count()));
             }
-            assert!(!every_call(&card[..position], 0, case.count()));
+            assert!(!every_call(&card[..position], &card, 0, case.count()));
         }
         let longer = [&card[..], &[0]].concat();
-        assert!(!every_call(&longer, 0, case.count()));
+        assert!(!every_call(&longer, &card, 0, case.count()));
     }
     assert!(opened_anyway > 20, "{opened_anyway}");
 }
@@ -55,11 +60,12 @@ fn headers_damaged_in_many_places() {
     let mut random = Random::new(533);
     for _ in 0..4000 {
         let case = Case::small(&mut random);
-        let mut card = written(&case);
-        let header = open(&card).unwrap().header_length;
+        let fine = written(&case);
+        let header = open(&fine).unwrap().header_length;
+        let mut card = fine.clone();
         damage_header(&mut random, &mut card, header);
         let length = random.length(0, card.len());
-        every_call(&card, random.below(3), case.count());
-        every_call(&card[..length], 0, case.count());
+        every_call(&card, &fine, random.below(3), case.count());
+        every_call(&card[..length], &fine, 0, case.count());
     }
 }

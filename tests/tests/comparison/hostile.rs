@@ -1,7 +1,7 @@
 //! Bytes that no writer wrote, through every call: random ones, and ones put together like
 //! cards; with them any sheet, plan and numbers, and slices of any length.
 
-use super::both::{check, A, B};
+use super::both::{check, A, B, Q, V};
 use super::calls::{Call, Memory, SLICES};
 use super::common::{card_of, header_lines};
 use trace_card_tests::boundary::ANSWER;
@@ -32,14 +32,18 @@ fn any_value(random: &mut Random) -> String {
     }
 }
 
-/// A header that is right but for a line now and then, and any bytes behind it, about as many
-/// as its cells have.
-fn card_like(random: &mut Random) -> Vec<u8> {
-    // Now and then a plane has several cells.
+/// A size of a card. Now and then a plane of such a card has several cells.
+fn any_size(random: &mut Random) -> (u64, u64) {
     let end = if random.once_in(40) { 40 } else { 12 };
+    (1 + random.below(end), 1 + random.below(end))
+}
+
+/// A header of this size that is right but for a line now and then, and any bytes behind it, about as many
+/// as its cells have.
+fn card_like(random: &mut Random, (rows, cols): (u64, u64)) -> Vec<u8> {
     let shape = Shape {
-        rows: 1 + random.below(end),
-        cols: 1 + random.below(end),
+        rows,
+        cols,
         levels: random.below(4),
     };
     let points = shape.layer_counts();
@@ -118,7 +122,7 @@ fn any_plan(random: &mut Random, whole: &[u64]) -> Plan {
 }
 
 /// All calls, with any numbers; a sheet written has mostly this size.
-fn all_calls(random: &mut Random, (rows, cols): (u64, u64)) -> [Call; 8] {
+fn all_calls(random: &mut Random, (rows, cols): (u64, u64)) -> [Call; 9] {
     let mut size = |right| match random.below(8) {
         0 => any_number(random, 10),
         _ => right,
@@ -135,6 +139,7 @@ fn all_calls(random: &mut Random, (rows, cols): (u64, u64)) -> [Call; 8] {
         Call::Read,
         Call::Show,
         Call::Roll,
+        Call::Compare,
         Call::Refine {
             layer: any_number(random, 4),
         },
@@ -144,12 +149,18 @@ fn all_calls(random: &mut Random, (rows, cols): (u64, u64)) -> [Call; 8] {
     ]
 }
 
-/// Memory for a sheet of so many points; now and then some slices have other lengths, or
-/// numbers that no call takes.
-fn any_memory(random: &mut Random, call: Call, card: &[u8], plan: &Plan, points: usize) -> Memory {
+/// The cards of a call, of which only a comparison takes the second, and the points of their sheets.
+struct Given<'a> {
+    cards: [&'a [u8]; 2],
+    points: [usize; 2],
+}
+
+/// Memory for these sheets; now and then some slices have other lengths, or numbers that no call takes.
+fn any_memory(random: &mut Random, call: Call, given: &Given, plan: &Plan) -> Memory {
     let odd = random.once_in(6);
     let writes = matches!(call, Call::Write { .. });
     let rolls = matches!(call, Call::Roll);
+    let [points, second_points] = given.points;
     let mut memory = Memory {
         samples: (0..points)
             .map(|_| match random.below(40) {
@@ -157,7 +168,8 @@ fn any_memory(random: &mut Random, call: Call, card: &[u8], plan: &Plan, points:
                 _ => random.between(-1_048_575, 1_048_575) as i32,
             })
             .collect(),
-        card: card.to_vec(),
+        card: given.cards[0].to_vec(),
+        second: given.cards[1].to_vec(),
         plan: plan.to_vec(),
         coefficients: (0..points)
             .map(|_| match random.below(40) {
@@ -166,8 +178,11 @@ fn any_memory(random: &mut Random, call: Call, card: &[u8], plan: &Plan, points:
             })
             .collect(),
         values: (0..points).map(|_| random.draw() as i64).collect(),
+        second_coefficients: vec![Q; second_points],
+        second_values: vec![V; second_points],
         output: vec![B; if writes { OUTPUT_BYTES } else { 0 }],
         page: vec![B; if rolls { page_bytes(points) } else { 0 }],
+        apart: vec![B; points],
         answer: vec![A; ANSWER],
     };
     if random.once_in(6) {
@@ -187,29 +202,37 @@ fn any_memory(random: &mut Random, call: Call, card: &[u8], plan: &Plan, points:
 }
 
 /// How often each call returned each number.
-type Met = [[u64; 13]; 8];
+type Met = [[u64; 14]; 9];
 
-/// Makes all calls on these bytes, with slices for the sheet that they open to, or for any.
-fn attack(random: &mut Random, card: &[u8], met: &mut Met) {
-    let (size, whole) = match open(card) {
-        Ok(opened) => ((opened.rows, opened.cols), whole_planes(&opened, card)),
-        Err(_) => ((1 + random.below(9), 1 + random.below(9)), vec![]),
+/// Makes all calls on these bytes, the second ones for a comparison, with slices for the sheets that they open
+/// to, or for any.
+fn attack(random: &mut Random, cards: [&[u8]; 2], met: &mut Met) {
+    let opened = cards.map(open);
+    let sizes = opened.each_ref().map(|opened| match opened {
+        Ok(opened) => (opened.rows, opened.cols),
+        Err(_) => (1 + random.below(9), 1 + random.below(9)),
+    });
+    let whole = match &opened[0] {
+        Ok(opened) => whole_planes(opened, cards[0]),
+        Err(_) => vec![],
     };
-    let points = (size.0 * size.1) as usize;
-    for (call, met) in all_calls(random, size).into_iter().zip(met) {
+    let points = sizes.map(|(rows, cols)| (rows * cols) as usize);
+    for (call, met) in all_calls(random, sizes[0]).into_iter().zip(met) {
         let plan = any_plan(random, &whole);
-        let mut memory = any_memory(random, call, card, &plan, points);
+        let given = Given { cards, points };
+        let mut memory = any_memory(random, call, &given, &plan);
         met[check(call, &mut memory) as usize] += 1;
     }
 }
 
 /// The numbers that each of these calls may return: its own refusals, those of opening a card,
 /// and 3 for an answer or a plan of another length.
-const RETURNED: [&[usize]; 8] = [
+const RETURNED: [&[usize]; 9] = [
     &[0, 1, 2, 3, 4],
     &[0, 3, 5, 6, 7, 8, 9],
     &[0, 3, 5, 6, 7, 8],
     &[0, 3, 5, 6, 7, 8, 12],
+    &[0, 3, 5, 6, 7, 8, 13],
     &[0, 3, 5, 6, 7, 8, 9, 11],
     &[0, 3, 5, 6, 7, 9],
     &[0, 3, 5, 6, 7, 10],
@@ -219,11 +242,13 @@ const RETURNED: [&[usize]; 8] = [
 #[test]
 fn random_bytes() {
     let mut random = Random::new(551);
-    let mut met: Met = [[0; 13]; 8];
+    let mut met: Met = [[0; 14]; 9];
     for _ in 0..10_000 {
-        let length = random.below(400);
-        let bytes: Vec<u8> = (0..length).map(|_| random.draw() as u8).collect();
-        attack(&mut random, &bytes, &mut met);
+        let [first, second] = [(); 2].map(|()| -> Vec<u8> {
+            let length = random.below(400);
+            (0..length).map(|_| random.draw() as u8).collect()
+        });
+        attack(&mut random, [&first, &second], &mut met);
     }
     // Such bytes are cut in line 1 or have a wrong one.
     for met in &met[1..] {
@@ -236,10 +261,18 @@ fn random_bytes() {
 #[test]
 fn bytes_like_cards() {
     let mut random = Random::new(552);
-    let mut met: Met = [[0; 13]; 8];
+    let mut met: Met = [[0; 14]; 9];
     for _ in 0..25_000 {
-        let bytes = card_like(&mut random);
-        attack(&mut random, &bytes, &mut met);
+        let size = any_size(&mut random);
+        let first = card_like(&mut random, size);
+        let second = match random.below(4) {
+            0 => any_size(&mut random),
+            // As many points, but for a square.
+            1 => (size.1, size.0),
+            _ => size,
+        };
+        let second = card_like(&mut random, second);
+        attack(&mut random, [&first, &second], &mut met);
     }
     for (met, returned) in met.iter().zip(RETURNED) {
         for (number, &times) in met.iter().enumerate() {

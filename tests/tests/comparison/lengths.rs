@@ -15,29 +15,34 @@ const WRITE: Call = Call::Write {
 };
 
 /// Calls that are all accepted in the memory below.
-const CALLS: [Call; 8] = [
+const CALLS: [Call; 9] = [
     WRITE,
     Call::Read,
     Call::Show,
     Call::Roll,
+    Call::Compare,
     Call::Refine { layer: 1 },
     Call::Figure,
     Call::PlanByLimit(9),
     Call::PlanByCells(5),
 ];
 
-/// The bench card, a plan of all its anchors' planes, and slices of the right lengths.
+/// The bench card, the finer one, a plan of all its anchors' planes, and slices of the right lengths.
 fn memory() -> Memory {
     let mut plan = vec![0; PLAN];
     plan[0] = 5;
     Memory {
         samples: bench::SAMPLES.to_vec(),
         card: bench::card(),
+        second: bench::fine_card(),
         plan,
         coefficients: vec![1; 5],
         values: vec![V; 5],
+        second_coefficients: vec![Q; 5],
+        second_values: vec![V; 5],
         output: vec![B; 32_768],
         page: vec![B; 150],
+        apart: vec![B; 5],
         answer: vec![A; ANSWER],
     }
 }
@@ -45,12 +50,13 @@ fn memory() -> Memory {
 /// What a call returns where one of its slices is so long, and 0 where it does not take it.
 fn expected(call: Call, slice: Slice, length: usize) -> u64 {
     let writes = matches!(call, Call::Write { .. });
-    let rolls = matches!(call, Call::Roll);
-    let reads = rolls || matches!(call, Call::Read | Call::Show | Call::Refine { .. });
+    let (rolls, compares) = (matches!(call, Call::Roll), matches!(call, Call::Compare));
+    let reads = matches!(call, Call::Read | Call::Show | Call::Refine { .. }) || rolls || compares;
     let plans = matches!(call, Call::Read | Call::Refine { .. } | Call::Figure);
     let wrong = match slice {
         Slice::Samples => writes && length != 5,
         Slice::Coefficients | Slice::Values => (writes || reads) && length != 5,
+        Slice::SecondCoefficients | Slice::SecondValues | Slice::Apart => compares && length != 5,
         Slice::Output => writes && length < 32_768,
         Slice::Page if rolls && length < 150 => return 12,
         Slice::Page => false,
@@ -60,6 +66,9 @@ fn expected(call: Call, slice: Slice, length: usize) -> u64 {
         Slice::Card if writes => false,
         Slice::Card if length < bench::HEADER_BYTES => return 5,
         Slice::Card if length > bench::CARD_BYTES => return 7,
+        Slice::Second if compares && length < bench::FINE_HEADER_BYTES => return 5,
+        Slice::Second if compares && length > bench::FINE_CARD_BYTES => return 7,
+        Slice::Second => false,
         // Cut behind the header, the card has fewer planes than the plan asks.
         Slice::Card => match call {
             Call::Read if length < bench::HEADER_BYTES + 5 * 32 => return 9,
@@ -117,7 +126,8 @@ fn several_slices_at_once() {
         let returned = check(call, &mut only_answer);
         let number = match call {
             Call::Read | Call::Refine { .. } | Call::Figure | Call::Write { .. } => 3,
-            Call::Show | Call::Roll | Call::PlanByLimit(_) | Call::PlanByCells(_) => 5,
+            Call::Show | Call::Roll | Call::Compare => 5,
+            Call::PlanByLimit(_) | Call::PlanByCells(_) => 5,
         };
         assert_eq!(returned, number, "{call:?}, no slice but the answer");
     }

@@ -12,6 +12,7 @@ mod common;
 mod bench;
 mod both;
 mod calls;
+mod comparing;
 mod damage;
 mod hostile;
 mod lengths;

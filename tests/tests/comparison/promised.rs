@@ -2,7 +2,7 @@
 
 use super::calls::{Call, Left, Memory};
 use trace_card_tests::boundary::{ANSWER, PLAN};
-use trace_card_tests::model::{self, Curve, Plan, Planned, Reached, Refusal};
+use trace_card_tests::model::{self, Compared, Curve, Plan, Planned, Reached, Refusal};
 
 /// Numbers 3 and on of an answer: the length or the cells, the figure and the plan.
 fn answer_with(size: u64, figure: u64, plan: &Plan) -> [u64; ANSWER] {
@@ -34,6 +34,15 @@ fn reached(result: Result<Reached, Refusal>) -> [u64; ANSWER] {
 pub fn planned(result: Result<Planned, Refusal>) -> [u64; ANSWER] {
     told(result, |planned| {
         answer_with(planned.cells, planned.figure, &planned.plan)
+    })
+}
+
+fn compared(result: Result<Compared, Refusal>) -> [u64; ANSWER] {
+    told(result, |compared| {
+        let mut answer = [0; ANSWER];
+        answer[3] = compared.apart;
+        answer[4..6].copy_from_slice(&compared.first);
+        answer
     })
 }
 
@@ -82,6 +91,15 @@ pub fn promised(call: Call, memory: &Memory) -> Left {
             let page = &mut left.page;
             reached(model::roll(card, coefficients, values, page))
         }
+        (Call::Compare, _) => compared(model::compare(
+            card,
+            &memory.second,
+            coefficients,
+            values,
+            &mut left.second_coefficients,
+            &mut left.second_values,
+            &mut left.apart,
+        )),
         (Call::PlanByLimit(limit), _) => planned(model::plan_by_limit(card, limit)),
         (Call::PlanByCells(cells), _) => planned(model::plan_by_cells(card, cells)),
         (_, Err(_)) => return (3, left),

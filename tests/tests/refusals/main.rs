@@ -4,6 +4,7 @@
 mod common;
 
 mod asking;
+mod comparing;
 mod damage;
 mod header;
 mod reading;
@@ -11,9 +12,10 @@ mod refining;
 mod rolling;
 mod writing;
 
+use common::bench;
 use trace_card_tests::model::{
-    figure, open, plan_by_cells, plan_by_limit, read, refine, roll, show, Plan, Reached, Refusal,
-    MAX_LAYERS,
+    compare, figure, open, plan_by_cells, plan_by_limit, read, refine, roll, show, Compared, Plan,
+    Reached, Refusal, MAX_LAYERS,
 };
 
 // The filling of lent slices, which a refusal must leave.
@@ -64,6 +66,38 @@ fn roll_on(card: &[u8], lengths: (usize, usize), page: usize) -> Result<Vec<u8>,
     }
 }
 
+/// Compares on filled slices of these lengths, two for each card and one for the marks, which keep the
+/// filling where the call is refused. Answers the marks too.
+fn compare_on(
+    cards: [&[u8]; 2],
+    lengths: [(usize, usize); 2],
+    apart: usize,
+) -> Result<(Compared, Vec<u8>), Refusal> {
+    let mut coefficients = lengths.map(|(length, _)| vec![Q; length]);
+    let mut values = lengths.map(|(_, length)| vec![V; length]);
+    let mut marks = vec![B; apart];
+    let [first_coefficients, second_coefficients] = &mut coefficients;
+    let [first_values, second_values] = &mut values;
+    let compared = compare(
+        cards[0],
+        cards[1],
+        first_coefficients,
+        first_values,
+        second_coefficients,
+        second_values,
+        &mut marks,
+    );
+    match compared {
+        Ok(compared) => Ok((compared, marks)),
+        Err(refusal) => {
+            assert!(coefficients.concat().iter().all(|&q| q == Q));
+            assert!(values.concat().iter().all(|&v| v == V));
+            assert!(marks.iter().all(|&b| b == B));
+            Err(refusal)
+        }
+    }
+}
+
 /// Every call but writing opens the card first, whatever else it was handed.
 fn all_refuse(card: &[u8], expected: Refusal) {
     let absurd = [u64::MAX; MAX_LAYERS];
@@ -74,6 +108,12 @@ fn all_refuse(card: &[u8], expected: Refusal) {
     );
     assert_eq!(on_slices((0, 3), |q, v| show(card, q, v)), Err(expected));
     assert_eq!(roll_on(card, (0, 3), 0), Err(expected));
+    let fine = bench::card();
+    let compared = compare_on([card, b""], [(0, 3), (3, 0)], 1);
+    assert_eq!(compared, Err(expected));
+    // Of a second card, once the first is found right.
+    let compared = compare_on([&fine, card], [(5, 5), (3, 0)], 1);
+    assert_eq!(compared, Err(expected));
     assert_eq!(
         on_slices((2, 1), |q, v| refine(card, &absurd, u64::MAX, q, v)),
         Err(expected)

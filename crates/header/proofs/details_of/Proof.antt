@@ -42,6 +42,9 @@ enum-told-8 c = search needs
 enum-told-9 : tie.Need-enum-told-9
 enum-told-9 c = search needs
 
+enum-told-10 : tie.Need-enum-told-10
+enum-told-10 c = search needs
+
 returns : tie.Need-returns
 returns c = rw (c .enum-told .given .1)
 
@@ -81,6 +84,9 @@ returns-12 c = rw (c .enum-told8 .given .1)
 returns-13 : tie.Need-returns-13
 returns-13 c = rw (c .enum-told9 .given .1)
 
+returns-14 : tie.Need-returns-14
+returns-14 c = rw (c .enum-told10 .given .1)
+
 pub details-of-spec : {M : Type 1} → statement M
 details-of-spec =
     tie.close
@@ -98,6 +104,7 @@ details-of-spec =
     enum-told-7
     enum-told-8
     enum-told-9
+    enum-told-10
     returns
     returns-2
     returns-3
@@ -110,4 +117,5 @@ details-of-spec =
     returns-10
     returns-11
     returns-12
-    returns-13)
+    returns-13
+    returns-14)

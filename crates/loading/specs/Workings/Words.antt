@@ -104,12 +104,16 @@ pub record Partly (h : Header) (long : ℕ) (bs : List ℕ) (plan : ℕ → ℕ)
 abbrev pub FineBefore : Header → ℕ → List ℕ → (ℕ → ℕ) → ℕ → ℕ → Type 0
 FineBefore h long bs plan k p = (j : ℕ) → j < k → badSlot h long bs plan (slotNo h j p) ≡ false
 
--- what the planes at place p leave: the cells up to their end and the words after them, or the first layer whose plane is bad
+-- what checking the planes at place p answers: the cells up to their end where all are fine, or the first layer whose plane is bad
+abbrev pub PlaceChecked : Header → ℕ → List ℕ → (ℕ → ℕ) → ℕ → Placed → Type 0
+PlaceChecked h long bs plan p (Placed.Fine c) = (c ≡ cellsBefore h (layers (h .shape)) p) × FineBefore h long bs plan (layers (h .shape)) p
+PlaceChecked h long bs plan p (Placed.Bad k) = (k < layers (h .shape)) × (badSlot h long bs plan (slotNo h k p) ≡ true) × FineBefore h long bs plan k p
+
+-- and where they are added too: the words after them
 abbrev pub PlaceRead : Header → ℕ → List ℕ → (ℕ → ℕ) → ℕ → Placed → List ℕ → Type 0
 PlaceRead h long bs plan p (Placed.Fine c) ws =
-    (c ≡ cellsBefore h (layers (h .shape)) p) × FineBefore h long bs plan (layers (h .shape)) p × Partly h long bs plan (slotNo h (layers (h .shape)) p) ws
-PlaceRead h long bs plan p (Placed.Bad k) ws =
-    (k < layers (h .shape)) × (badSlot h long bs plan (slotNo h k p) ≡ true) × FineBefore h long bs plan k p
+    PlaceChecked h long bs plan p (Placed.Fine c) × Partly h long bs plan (slotNo h (layers (h .shape)) p) ws
+PlaceRead h long bs plan p (Placed.Bad k) ws = PlaceChecked h long bs plan p (Placed.Bad k)
 
 -- the words of a reading stand in ws
 pub record Read (h : Header) (long : ℕ) (bs : List ℕ) (plan : ℕ → ℕ) (ws : List ℕ) : Type 0 where

@@ -1,4 +1,4 @@
--- By the two tests, as the definition has them.
+-- By the tests, as the definition has them.
 use mathlib.Core.Path.{sym, _∙_}
 use borrow.Author.Needs.{needs}
 use Rattle.header.specs.Header.{asciiFrom}
@@ -28,11 +28,25 @@ returns-2 c =
     let t = c .before .before .before in
     simp (sym (t .before .is .ensures) ∙ t .if1 .left, sym (c .before .is2 .ensures) ∙ c .if2 .taken)
 
+slice-aggregate-is-3 : tie.Need-slice-aggregate-is-3
+slice-aggregate-is-3 c = search needs
+
+is-requires-3 : tie.Need-is-requires-3
+is-requires-3 c κs = search needs
+
 returns-3 : tie.Need-returns-3
 unfolding wordOf asciiFrom
 returns-3 c =
-    let t = c .before .before .before in
-    simp (sym (t .before .is .ensures) ∙ t .if1 .left, sym (c .before .is2 .ensures) ∙ c .if2 .left)
+    let u = c .before .before .before in
+    let t = u .before .before .before in
+    simp (sym (t .before .is .ensures) ∙ t .if1 .left, sym (u .before .is2 .ensures) ∙ u .if2 .left, sym (c .before .is3 .ensures) ∙ c .if3 .taken)
+
+returns-4 : tie.Need-returns-4
+unfolding wordOf asciiFrom
+returns-4 c =
+    let u = c .before .before .before in
+    let t = u .before .before .before in
+    simp (sym (t .before .is .ensures) ∙ t .if1 .left, sym (u .before .is2 .ensures) ∙ u .if2 .left, sym (c .before .is3 .ensures) ∙ c .if3 .left)
 
 pub word-of-spec : {M : Type 1} → statement M
 word-of-spec =
@@ -44,4 +58,7 @@ word-of-spec =
     slice-aggregate-is-2
     is-requires-2
     returns-2
-    returns-3)
+    slice-aggregate-is-3
+    is-requires-3
+    returns-3
+    returns-4)

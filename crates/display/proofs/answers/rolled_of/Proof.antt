@@ -3,14 +3,14 @@ use mathlib.Core.Path.{_≡_, ap, ap₂, sym, _∙_}
 use Prim.Native.Nat.{ℕ, _≤_}
 use native.Mathlib.Omega.{arith}
 use lib.IntN.{pos}
-use lib.ListN.{length, take, length-take, length-replicate}
+use lib.ListN.{take}
 use denote.Ref.{now}
 use Rattle.sheet.specs.Limits.{pointsMost}
 use Rattle.sheet.specs.Sheet.{points}
 use Rattle.header.specs.declared.Details.{Details}
 use Rattle.header.proofs.OpenedSize.{Small}
 use Rattle.roll.specs.Rolling.{Rolling, asRolling}
-use Rattle.display.proofs.Seeing.{sheet-small}
+use Rattle.display.proofs.Seeing.{sheet-small, cut-fits}
 use Rattle.display.proofs.Rolling.{rolledIn, in-room, page-long, number-is, lines-are}
 use borrow.Author.Needs.{needs}
 use Rattle.display.proofs.answers.rolled_of.Statement.{statement}
@@ -41,23 +41,17 @@ long p = p .points .ensures ∙ sizes (O p) .0
 small : (p : tie.After-points) → N p ≤ pointsMost
 small p = omega (arith, long p, sizes (O p) .1)
 
-coefficients-long : (s : tie.Start) → length (now (s .args .coefficients)) ≡ pointsMost
-coefficients-long s = ap length (s .pre .0) ∙ length-replicate pointsMost (pos 0)
-
-values-long : (s : tie.Start) → length (now (s .args .values)) ≡ pointsMost
-values-long s = ap length (s .pre .1) ∙ length-replicate pointsMost (pos 0)
-
 slice-relend-prefix-roll : tie.Need-slice-relend-prefix-roll
-slice-relend-prefix-roll p = omega (arith, small p, coefficients-long (S p))
+slice-relend-prefix-roll p = cut-fits (pos 0) _ (S p .pre .0) (N p) (small p) .0
 
 slice-aggregate-roll : tie.Need-slice-aggregate-roll
-slice-aggregate-roll c = let p = c .before in omega (arith, small p, coefficients-long (S p), length-take (N p) (now (S p .args .coefficients)))
+slice-aggregate-roll c = let p = c .before in cut-fits (pos 0) _ (S p .pre .0) (N p) (small p) .1
 
 slice-relend-prefix-roll-2 : tie.Need-slice-relend-prefix-roll-2
-slice-relend-prefix-roll-2 c = let p = c .before in omega (arith, small p, values-long (S p))
+slice-relend-prefix-roll-2 c = let p = c .before in cut-fits (pos 0) _ (S p .pre .1) (N p) (small p) .0
 
 slice-aggregate-roll-2 : tie.Need-slice-aggregate-roll-2
-slice-aggregate-roll-2 c = let p = c .before .before in omega (arith, small p, values-long (S p), length-take (N p) (now (S p .args .values)))
+slice-aggregate-roll-2 c = let p = c .before .before in cut-fits (pos 0) _ (S p .pre .1) (N p) (small p) .1
 
 roll-requires : tie.Need-roll-requires
 roll-requires c κs = search needs

@@ -3,7 +3,7 @@ use mathlib.Core.Path.{_≡_, ap, sym, _∙_}
 use Prim.Native.Nat.{ℕ, _≤_}
 use native.Mathlib.Omega.{arith}
 use lib.IntN.{pos}
-use lib.ListN.{length, take, drop, length-take, length-replicate}
+use lib.ListN.{length, take, drop}
 use lib.Seq.{take-at}
 use denote.Ref.{now}
 use Rattle.sheet.specs.Limits.{pointsMost}
@@ -11,7 +11,7 @@ use Rattle.sheet.specs.Sheet.{points}
 use Rattle.header.specs.declared.Details.{Details}
 use Rattle.card.specs.Reading.{showing}
 use Rattle.header.proofs.OpenedSize.{Small}
-use Rattle.display.proofs.Seeing.{sheet-small, shown-is, values-are}
+use Rattle.display.proofs.Seeing.{sheet-small, cut-fits, shown-is, values-are}
 use borrow.Author.Needs.{needs}
 use Rattle.display.proofs.answers.shown_of.Statement.{statement}
 use Rattle.display.proofs.answers.shown_of.Tie as tie
@@ -41,23 +41,17 @@ long p = p .points .ensures ∙ sizes (O p) .0
 small : (p : tie.After-points) → N p ≤ pointsMost
 small p = omega (arith, long p, sizes (O p) .1)
 
-coefficients-long : (s : tie.Start) → length (now (s .args .coefficients)) ≡ pointsMost
-coefficients-long s = ap length (s .pre .0) ∙ length-replicate pointsMost (pos 0)
-
-values-long : (s : tie.Start) → length (now (s .args .values)) ≡ pointsMost
-values-long s = ap length (s .pre .1) ∙ length-replicate pointsMost (pos 0)
-
 slice-relend-prefix-show : tie.Need-slice-relend-prefix-show
-slice-relend-prefix-show p = omega (arith, small p, coefficients-long (S p))
+slice-relend-prefix-show p = cut-fits (pos 0) _ (S p .pre .0) (N p) (small p) .0
 
 slice-aggregate-show : tie.Need-slice-aggregate-show
-slice-aggregate-show c = let p = c .before in omega (arith, small p, coefficients-long (S p), length-take (N p) (now (S p .args .coefficients)))
+slice-aggregate-show c = let p = c .before in cut-fits (pos 0) _ (S p .pre .0) (N p) (small p) .1
 
 slice-relend-prefix-show-2 : tie.Need-slice-relend-prefix-show-2
-slice-relend-prefix-show-2 c = let p = c .before in omega (arith, small p, values-long (S p))
+slice-relend-prefix-show-2 c = let p = c .before in cut-fits (pos 0) _ (S p .pre .1) (N p) (small p) .0
 
 slice-aggregate-show-2 : tie.Need-slice-aggregate-show-2
-slice-aggregate-show-2 c = let p = c .before .before in omega (arith, small p, values-long (S p), length-take (N p) (now (S p .args .values)))
+slice-aggregate-show-2 c = let p = c .before .before in cut-fits (pos 0) _ (S p .pre .1) (N p) (small p) .1
 
 show-requires : tie.Need-show-requires
 show-requires c κs = search needs

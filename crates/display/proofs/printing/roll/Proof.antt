@@ -1,21 +1,22 @@
 -- By the test of the length, as the definition has it; the slices are as long as they have to be.
-use mathlib.Core.Path.{refl}
+use mathlib.Core.Path.{refl, _∙_}
 use native.Mathlib.Omega.{arith}
 use borrow.Author.Needs.{needs}
-use borrow.Author.Tests.{lt-ltb, le-ltb}
+use borrow.Author.Tests.{lt-ltb}
 use denote.Ref.{now}
 use lib.ListN.{length, length-replicate}
 use Rattle.display.specs.Workings.{bufferBytes}
 use Rattle.display.proofs.printing.roll.Statement.{statement}
 use Rattle.display.proofs.printing.roll.Tie as tie
 
-refuse-long-requires : tie.Need-refuse-long-requires
-refuse-long-requires c κs = search needs
+number-of-requires : tie.Need-number-of-requires
+number-of-requires c κs = search needs
+
+refuse-requires : tie.Need-refuse-requires
+refuse-requires c κs = search needs
 
 returns : tie.Need-returns
-returns c =
-    let bs = now (c .before .before .before .args .bytes) in
-    rw (le-ltb (length bs) bufferBytes (omega arith)) (c .refuse-long .ensures)
+returns c = c .refuse .ensures ∙ c .before .number-of .ensures
 
 slice-aggregate-roll-in : tie.Need-slice-aggregate-roll-in
 slice-aggregate-roll-in c = search needs
@@ -39,7 +40,8 @@ pub roll-spec : {M : Type 1} → statement M
 roll-spec =
     tie.close
     (tie.spec
-    refuse-long-requires
+    number-of-requires
+    refuse-requires
     returns
     slice-aggregate-roll-in
     slice-aggregate-roll-in-2

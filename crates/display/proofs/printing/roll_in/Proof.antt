@@ -1,9 +1,6 @@
 -- The lines are within the page, which has room for any sheet's; the number is the one that is shown.
-use mathlib.Core.Path.{_≡_}
 use native.Mathlib.Omega.{arith}
-use lib.ListN.{length, length-take}
-use Rattle.display.specs.Workings.{pieceMost, refusedLine}
-use Rattle.display.proofs.Behind.{holds-within}
+use lib.ListN.{length-take}
 use borrow.Author.Needs.{needs}
 use Rattle.display.proofs.printing.roll_in.Statement.{statement}
 use Rattle.display.proofs.printing.roll_in.Tie as tie
@@ -11,24 +8,8 @@ use Rattle.display.proofs.printing.roll_in.Tie as tie
 rolled-of-requires : tie.Need-rolled-of-requires
 rolled-of-requires c κs = search needs
 
-slice-reshare-prefix-write-all : tie.Need-slice-reshare-prefix-write-all
-slice-reshare-prefix-write-all c = search needs
-
-slice-aggregate-write-all : tie.Need-slice-aggregate-write-all
-slice-aggregate-write-all c =
-    let r = c .before .before .before .before .before .before .before in
-    omega (arith, length-take (r .rolled-of .result .length) (r .rolled-of .last .1 .1 .1 .0))
-
-write-all-requires : tie.Need-write-all-requires
-write-all-requires c κs = search needs
-
-refused-line-requires : tie.Need-refused-line-requires
-refused-line-requires c κs = search needs
-
-write-requires : tie.Need-write-requires
-write-requires c κs =
-    let full : length (c .refused-line .result .bytes) ≡ pieceMost = search needs in
-    omega (arith, holds-within (refusedLine (c .before .before .before .before .before .before .before .rolled-of .result .number) 0) (c .refused-line .ensures))
+refuse-requires : tie.Need-refuse-requires
+refuse-requires c κs = search needs
 
 same-length : tie.Need-same-length
 same-length c = search needs
@@ -41,6 +22,17 @@ same-length-3 c = search needs
 
 returns : tie.Need-returns
 returns c = search needs
+
+slice-reshare-prefix-write-all : tie.Need-slice-reshare-prefix-write-all
+slice-reshare-prefix-write-all c = search needs
+
+slice-aggregate-write-all : tie.Need-slice-aggregate-write-all
+slice-aggregate-write-all c =
+    let r = c .before .before .before .before .before .before .before in
+    omega (arith, length-take (r .rolled-of .result .length) (r .rolled-of .last .1 .1 .1 .0))
+
+write-all-requires : tie.Need-write-all-requires
+write-all-requires c κs = search needs
 
 same-length-4 : tie.Need-same-length-4
 same-length-4 c = search needs
@@ -59,15 +51,14 @@ roll-in-spec =
     tie.close
     (tie.spec
     rolled-of-requires
-    slice-reshare-prefix-write-all
-    slice-aggregate-write-all
-    write-all-requires
-    refused-line-requires
-    write-requires
+    refuse-requires
     same-length
     same-length-2
     same-length-3
     returns
+    slice-reshare-prefix-write-all
+    slice-aggregate-write-all
+    write-all-requires
     same-length-4
     same-length-5
     same-length-6

@@ -1,20 +1,22 @@
 -- By the test of the length, as the definition has it.
+use mathlib.Core.Path.{_∙_}
 use native.Mathlib.Omega.{arith}
 use borrow.Author.Needs.{needs}
-use borrow.Author.Tests.{lt-ltb, le-ltb}
+use borrow.Author.Tests.{lt-ltb}
 use denote.Ref.{now}
 use lib.ListN.{length}
 use Rattle.display.specs.Workings.{bufferBytes}
 use Rattle.display.proofs.printing.show.Statement.{statement}
 use Rattle.display.proofs.printing.show.Tie as tie
 
-refuse-long-requires : tie.Need-refuse-long-requires
-refuse-long-requires c κs = search needs
+number-of-requires : tie.Need-number-of-requires
+number-of-requires c κs = search needs
+
+refuse-requires : tie.Need-refuse-requires
+refuse-requires c κs = search needs
 
 returns : tie.Need-returns
-returns c =
-    let bs = now (c .before .before .before .args .bytes) in
-    rw (le-ltb (length bs) bufferBytes (omega arith)) (c .refuse-long .ensures)
+returns c = c .refuse .ensures ∙ c .before .number-of .ensures
 
 slice-aggregate-show-in : tie.Need-slice-aggregate-show-in
 slice-aggregate-show-in c = search needs
@@ -35,7 +37,8 @@ pub show-spec : {M : Type 1} → statement M
 show-spec =
     tie.close
     (tie.spec
-    refuse-long-requires
+    number-of-requires
+    refuse-requires
     returns
     slice-aggregate-show-in
     slice-aggregate-show-in-2

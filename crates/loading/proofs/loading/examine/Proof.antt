@@ -1,7 +1,7 @@
--- As `load_whole`, without the coefficients: what loading the planes into the words answers is the refusal.
+-- As `load_whole`, without the coefficients: what checking the planes answers is the refusal.
 use mathlib.Core.Bool.{true}
 use mathlib.Core.List.{List}
-use mathlib.Core.Path.{_≡_, refl, sym, ap, _∙_}
+use mathlib.Core.Path.{_≡_, sym, ap, _∙_}
 use Prim.Native.Nat.{ℕ}
 use native.Mathlib.Omega.{arith}
 use borrow.Author.Needs.{needs}
@@ -48,16 +48,13 @@ sub-whole-planes c = let s = S c in omega (arith, loadable-here (Qs s) (Bs s) (s
 whole-planes-requires : tie.Need-whole-planes-requires
 whole-planes-requires c κs = search needs
 
-slice-aggregate-load-body : tie.Need-slice-aggregate-load-body
-slice-aggregate-load-body c = search needs
-
-load-body-requires : tie.Need-load-body-requires
-load-body-requires c κs =
-    let w = c .before in
-    let s = S (w .before) in
-    let y = can (w .before) in (
-      (loadable-right (Qs s) (Bs s) (s .args .header) (s .args .at) y, loadable-here (Qs s) (Bs s) (s .args .header) (s .args .at) y, refl),
-      whole-there (Qs s) (Bs s) (s .args .header) (s .args .at) y (w .whole-planes .result) _ (w .whole-planes .ensures) (omega arith),
+check-body-requires : tie.Need-check-body-requires
+check-body-requires c κs =
+    let s = S (c .before) in
+    let y = can (c .before) in (
+      loadable-right (Qs s) (Bs s) (s .args .header) (s .args .at) y,
+      loadable-here (Qs s) (Bs s) (s .args .header) (s .args .at) y,
+      whole-there (Qs s) (Bs s) (s .args .header) (s .args .at) y (c .whole-planes .result) _ (c .whole-planes .ensures) (omega arith),
     )
 
 -- what the planes' loading comes to
@@ -73,17 +70,17 @@ enum-told c = search needs
 returns-2 : tie.Need-returns-2
 returns-2 c =
     let y = c .before in
-    let l = y .before .before .before in
-    let w = l .before .before in
+    let l = y .before .before in
+    let w = l .before in
     let s = S (w .before) in
-    ap why (load-bad (s .args .header) (s .args .at) (Bs s) (w .whole-planes .result) (Qs s) (y .layer .given .0 .0) (sym (y .layer .given .1) ∙ l .load-body .ensures .0) ∙ comes w)
+    ap why (load-bad (s .args .header) (s .args .at) (Bs s) (w .whole-planes .result) (Qs s) (y .layer .given .0 .0) (sym (y .layer .given .1) ∙ l .check-body .ensures) ∙ comes w)
 
 returns-3 : tie.Need-returns-3
 returns-3 c =
-    let l = c .before .before .before in
-    let w = l .before .before in
+    let l = c .before .before in
+    let w = l .before in
     let s = S (w .before) in
-    ap why (load-fine (s .args .header) (s .args .at) (Bs s) (w .whole-planes .result) (Qs s) (sym (c .enum-told .given .1) ∙ l .load-body .ensures .0) ∙ comes w)
+    ap why (load-fine (s .args .header) (s .args .at) (Bs s) (w .whole-planes .result) (Qs s) (sym (c .enum-told .given .1) ∙ l .check-body .ensures) ∙ comes w)
 
 pub examine-spec : {M : Type 1} → statement M
 examine-spec =
@@ -93,8 +90,7 @@ examine-spec =
     returns
     sub-whole-planes
     whole-planes-requires
-    slice-aggregate-load-body
-    load-body-requires
+    check-body-requires
     enum-known-layer
     enum-told
     returns-2

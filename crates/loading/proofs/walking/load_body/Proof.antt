@@ -1,9 +1,7 @@
 -- The loop's invariant, after t places: the table and the cells before the next place, no slot so far is bad, and the words are those after t places' slots. A bad slot is the first; where none is bad the words are those of the reading.
 use mathlib.Core.Path.{_≡_, refl, sym, ap, _∙_, subst}
-use mathlib.Core.Bool.{false}
 use mathlib.Core.List.{List}
 use Prim.Native.Nat.{ℕ, suc, _+_, _-_, _*_, _<_, _≤_}
-use native.Mathlib.Decide.{decLt}
 use native.Mathlib.Omega.{arith}
 use borrow.Author.Needs.{needs}
 use denote.Ref.{now}
@@ -13,14 +11,14 @@ use Rattle.header.specs.Header.{placesMost}
 use Rattle.header.specs.Plan.{loads}
 use Rattle.order.specs.CardOrder.{cellsBefore}
 use Rattle.order.specs.Workings.{slotNo}
-use Rattle.order.proofs.CardOrder.{first-place, next-place}
+use Rattle.order.proofs.CardOrder.{first-place}
 use Rattle.header.proofs.WellFormed.{WellFormed, right-yes, few-planes}
-use Rattle.loading.specs.InBytes.{badSlot}
 use Rattle.loading.specs.declared.Placed.{Placed}
 use Rattle.loading.specs.declared.Placed.the-variants as Placed
-use Rattle.loading.specs.Workings.Words.{halves, halved, Partly, FineBefore, PlaceRead}
+use Rattle.loading.specs.Workings.Words.{halves, halved, Partly, PlaceRead}
 use Rattle.loading.proofs.HalfBytes.{halves-down}
-use Rattle.loading.proofs.WordSums.{bad-is, none-is, partly-none, partly-all}
+use Rattle.loading.proofs.WordSums.{none-is, partly-none, partly-all}
+use Rattle.loading.proofs.Turns.{FineUpTo, slot-behind, cells-down, fine-on, bad-first}
 use Rattle.loading.proofs.walking.load_body.Statement.{statement}
 use Rattle.loading.proofs.walking.load_body.Tie as tie
 
@@ -29,7 +27,7 @@ Inv-loop bytes at header plan words₀ sizes spans table₀ cells₀ t₀ words 
     (t ≤ placesMost)
     × (t < placesMost → table ≡ halves (placesMost - 1 - t))
     × (t < placesMost → cells ≡ cellsBefore header 0 (placesMost - 1 - t))
-    × ((u : ℕ) → u < t * layers (header .shape) → badSlot header at bytes (loads plan) u ≡ false)
+    × FineUpTo header at bytes (loads plan) (t * layers (header .shape))
     × Partly header at bytes (loads plan) (t * layers (header .shape)) words
 
 abbrev μ-loop : tie.MeasureT-loop
@@ -53,27 +51,6 @@ right s = right-yes (H s) (s .pre .0 .0)
 
 none : (s : tie.Start Inv-loop μ-loop) → Partly (H s) (s .args .at) (now (s .args .bytes)) (plan s) 0 (now (s .args .words))
 none s = partly-none (H s) (s .args .at) (now (s .args .bytes)) (plan s) _ (now (s .args .words)) (s .pre .0 .2) refl
-
--- the slots of a turn's place come behind those of t places
-slot-behind : (i : tie.In-loop Inv-loop μ-loop) (k : ℕ) → (let l = i .before in slotNo (H (S l)) k (placesMost - 1 - l .loop .t) ≡ l .loop .t * K (S l) + k)
-slot-behind i k =
-    let l = i .before in
-    let e : placesMost - 1 - (placesMost - 1 - l .loop .t) ≡ l .loop .t = omega (arith, i .loop-test .taken) in
-    ap (λ (t : ℕ). t * K (S l) + k) e
-
--- and up to one of them no slot is bad, where no layer before it has a bad plane
-fine-up-to : (i : tie.In-loop Inv-loop μ-loop) (k : ℕ) → (let l = i .before in let s = S l in FineBefore (H s) (s .args .at) (now (s .args .bytes)) (plan s) k (placesMost - 1 - l .loop .t)
-    → (u : ℕ) → u < l .loop .t * K s + k → badSlot (H s) (s .args .at) (now (s .args .bytes)) (plan s) u ≡ false)
-fine-up-to i k f u m =
-    let l = i .before in
-    let s = S l in
-    elim (decLt u (l .loop .t * K s)) [
-      | yes n ↦ l .loop .inv .3 u n
-      | no n ↦
-          let j = u - l .loop .t * K s in
-          let e : l .loop .t * K s + j ≡ u = omega arith in
-          ap (badSlot (H s) (s .args .at) (now (s .args .bytes)) (plan s)) (sym e ∙ sym (slot-behind i j)) ∙ f j (omega arith)
-    ]
 
 -- the words that a place leaves
 abbrev left : tie.After-load-place Inv-loop μ-loop → List ℕ
@@ -109,7 +86,7 @@ load-place-requires c κs =
     let l = i .before in
     let s = S l in
     let t = i .loop-test .taken in
-    let first : l .loop .t * K s ≡ slotNo (H s) 0 (placesMost - 1 - l .loop .t) = omega (arith, slot-behind i 0) in (
+    let first : l .loop .t * K s ≡ slotNo (H s) 0 (placesMost - 1 - l .loop .t) = omega (arith, slot-behind (H s) (l .loop .t) t 0) in (
       (s .pre .0 .0, s .pre .0 .1, omega arith, l .loop .inv .2 t),
       ((l .before .before .before .sizes-of .ensures, l .before .before .spans .ensures, l .loop .inv .1 t), (s .pre .1, rw first at (l .loop .inv .4))),
     )
@@ -133,7 +110,7 @@ returns c =
     let bs = now (s .args .bytes) in
     let k = c .before .layer .given .0 .0 in
     let read = subst (λ (r : Placed). PlaceRead (H s) (s .args .at) bs (plan s) p r (left q)) (c .before .layer .given .1) (q .load-place .ensures) in (
-      sym (bad-is (H s) (s .args .at) bs (plan s) k p (read .0) (omega arith) (read .1) (λ u m. fine-up-to i k (read .2) u (omega (arith, slot-behind i k)))),
+      sym (bad-first (H s) (s .args .at) bs (plan s) (l .loop .t) (i .loop-test .taken) (l .loop .inv .3) k (read .0) (read .1) (read .2)),
       λ e. absurd (let z : _≡_ {A = ℕ} 0 1 = cc in let o : ⊥ = omega arith in o),
     )
 
@@ -162,13 +139,12 @@ loop-again c =
     let q = c .before .before .before .before .before .before in
     let read : PlaceRead (H s) (s .args .at) bs (plan s) (placesMost - 1 - t) (Placed.Fine (c .before .before .next .given .0 .0)) (left q) =
     subst (λ (r : Placed). PlaceRead (H s) (s .args .at) bs (plan s) (placesMost - 1 - t) r (left q)) (c .before .before .next .given .1) (q .load-place .ensures) in
-    let down : t + 1 < placesMost → placesMost - 1 - t ≡ suc (placesMost - 1 - (t + 1)) = λ m. omega arith in
     let all : t * K s + K s ≡ (t + 1) * K s = omega arith in (
       omega (arith, i .loop-test .taken),
-      λ m. c .halved .ensures ∙ ap halved (l .loop .inv .1 (omega arith) ∙ ap halves (down m)) ∙ halves-down (placesMost - 1 - (t + 1)),
-      λ m. read .0 ∙ ap (cellsBefore (H s) (K s)) (down m) ∙ sym (next-place (H s) (placesMost - 1 - (t + 1))),
-      λ u m. fine-up-to i (K s) (read .1) u (omega arith),
-      rw (slot-behind i (K s) ∙ all) at (read .2),
+      λ m. c .halved .ensures ∙ ap halved (l .loop .inv .1 (omega arith) ∙ ap halves (let down : placesMost - 1 - t ≡ suc (placesMost - 1 - (t + 1)) = omega arith in down)) ∙ halves-down (placesMost - 1 - (t + 1)),
+      λ m. read .0 .0 ∙ cells-down (H s) t m,
+      fine-on (H s) (s .args .at) bs (plan s) t (i .loop-test .taken) (l .loop .inv .3) (read .0 .1),
+      rw (slot-behind (H s) t (i .loop-test .taken) (K s) ∙ all) at (read .1),
     )
 
 same-length-2 : tie.Need-same-length-2 Inv-loop μ-loop

@@ -1,36 +1,29 @@
 -- The loop's invariant, at layer k: the cells and the words before its plane, no layer so far has a bad one, and the words are those after its slot's turn has come.
 use mathlib.Core.Path.{_≡_, sym, ap, ap₂, _∙_}
-use mathlib.Core.Bool.{true, false, not, cond}
+use mathlib.Core.Bool.{true, false, not}
 use mathlib.Core.List.{List}
-use Prim.Native.Nat.{ℕ, _+_, _-_, _*_, _<_, _≤_}
+use Prim.Native.Nat.{ℕ, _+_, _-_, _*_, _≤_}
 use native.Mathlib.Omega.{arith}
 use borrow.Author.Count.{below-more}
 use borrow.Author.Tests.{not-true, not-false}
-use lib.Dec.{ltb}
 use lib.ListN.{length, getD}
 use denote.Ref.{now}
 use Rattle.sheet.specs.declared.Shape.{Shape}
-use Rattle.sheet.specs.Limits.{layersMost}
 use Rattle.sheet.specs.Sheet.{layers, layerSize}
-use Rattle.sheet.specs.Workings.Shapes.{sizeAt}
 use Rattle.sheet.proofs.Accepting.{count-is}
-use Rattle.sheet.proofs.Lists.{getD-tabulate}
 use Rattle.header.specs.declared.Header.{Header}
-use Rattle.header.specs.Header.{placesMost, cellBytes, cellPoints, planesOf, planeCells}
-use Rattle.header.specs.Workings.{cellsMost, cellsAt, planeCellsMost}
+use Rattle.header.specs.Header.{cellBytes, cellPoints, planesOf, planeCells}
 use Rattle.header.specs.Plan.{loads}
 use Rattle.order.specs.CardOrder.{cellsBefore}
 use Rattle.order.specs.Workings.{slotNo}
-use Rattle.header.proofs.Total.{plane-room, plane-most}
-use Rattle.header.proofs.Cells.{size-there, cells-there}
-use Rattle.header.proofs.WellFormed.{WellFormed, right-yes, layers-few, few-planes}
+use Rattle.header.proofs.WellFormed.{WellFormed, right-yes}
 use Rattle.loading.specs.InBytes.{badSlot}
 use Rattle.packing.specs.Workings.Words.{wordsMost, blockStart}
 use Rattle.loading.specs.Workings.Words.{slotWords, Partly, FineBefore}
 use Rattle.packing.proofs.Blocks.{block-none, block-next, block-room}
-use Rattle.order.proofs.Slots.{cells-next, cells-few}
-use Rattle.loading.proofs.SlotTests.{fine-same, words-same, slot-length}
+use Rattle.loading.proofs.SlotTests.{words-same, slot-length}
 use Rattle.loading.proofs.WordSums.{fine-slot, partly-small, partly-next}
+use Rattle.loading.proofs.Turns.{Turn, turn, from-is, cells-on, answer-is}
 use Rattle.loading.proofs.walking.load_place.Statement.{statement}
 use Rattle.loading.proofs.walking.load_place.Tie as tie
 
@@ -57,12 +50,8 @@ plan s = loads (s .args .t4)
 abbrev place : tie.At-loop Inv-loop μ-loop → ℕ
 place l = S l .args .at + cellBytes * cellsBefore (H (S l)) (l .loop .k) (S l .args .p)
 
--- ---- what holds at entry
 right : (s : tie.Start Inv-loop μ-loop) → WellFormed (H s)
 right s = right-yes (H s) (s .pre .0 .0)
-
-few : (s : tie.Start Inv-loop μ-loop) (j : ℕ) → j < layers (sh s) → planesOf (H s) j ≤ placesMost
-few s = few-planes (right s)
 
 count : (l : tie.At-loop Inv-loop μ-loop) → l .before .layer-count .result ≡ layers (sh (S l))
 count l = l .before .layer-count .ensures ∙ count-is (sh (S l)) (right (S l) .shape)
@@ -75,35 +64,14 @@ module _ (i : tie.In-loop Inv-loop μ-loop) where
   abbrev s : tie.Start Inv-loop μ-loop
   s = S l
 
-  abbrev k : ℕ
-  k = l .loop .k
+  here : Turn (H s) (l .loop .k) (s .args .p) (l .loop .cells) (getD (s .args .t5) (l .loop .k) 0) (getD (s .args .t6) (l .loop .k) 0)
+  here = turn (H s) (right s) (s .args .t5) (s .args .t6) (s .pre .1 .0 .0) (s .pre .1 .0 .1) (l .loop .k) (s .args .p) (l .loop .cells) (omega (arith, i .loop-test .taken, count l)) (l .loop .inv .1)
 
-  below : k < layers (sh s)
-  below = omega (arith, i .loop-test .taken, count l)
+  room : l .loop .start + cellPoints * getD (s .args .t6) (l .loop .k) 0 ≤ wordsMost
+  room = omega (arith, l .loop .inv .2, here .span, block-room (sh s) (right s .shape) (l .loop .k) (here .below))
 
-  a-layer : k < layersMost
-  a-layer = omega (arith, below, layers-few (right s))
-
-  size-is : getD (s .args .t5) k 0 ≡ layerSize (sh s) k
-  size-is = ap (λ ns. getD ns k 0) (s .pre .1 .0 .0) ∙ getD-tabulate layersMost (sizeAt (sh s)) k 0 a-layer ∙ size-there (sh s) (right s .shape) k below
-
-  span-is : getD (s .args .t6) k 0 ≡ planeCells (sh s) k
-  span-is = ap (λ ns. getD ns k 0) (s .pre .1 .0 .1) ∙ getD-tabulate layersMost (cellsAt (sh s)) k 0 a-layer ∙ cells-there (sh s) (right s .shape) k below
-
-  room : l .loop .start + cellPoints * getD (s .args .t6) k 0 ≤ wordsMost
-  room = omega (arith, l .loop .inv .2, span-is, block-room (sh s) (right s .shape) k below)
-
-  narrow : getD (s .args .t6) k 0 ≤ planeCellsMost
-  narrow = omega (arith, span-is, plane-most (sh s) (right s .shape) k)
-
-  few-cells : l .loop .cells ≤ cellsMost
-  few-cells = omega (arith, l .loop .inv .1, cells-few (H s) (few s) (right s .shape) k (s .args .p))
-
-  words : Partly (H s) (s .args .at) (now (s .args .bytes)) (plan s) (slotNo (H s) k (s .args .p)) (l .loop .words)
+  words : Partly (H s) (s .args .at) (now (s .args .bytes)) (plan s) (slotNo (H s) (l .loop .k) (s .args .p)) (l .loop .words)
   words = l .loop .inv .4
-
-  from-is : s .args .at + cellBytes * l .loop .cells ≡ place l
-  from-is = ap (λ (c : ℕ). s .args .at + cellBytes * c) (l .loop .inv .1)
 
 -- ---- what a slot gives
 abbrev I : tie.After-load-slot Inv-loop μ-loop → tie.In-loop Inv-loop μ-loop
@@ -113,20 +81,17 @@ abbrev left : tie.After-load-slot Inv-loop μ-loop → List ℕ
 left q = q .load-slot .last .1 .1 .1 .1 .1 .1 .1 .1 .0
 
 module _ (q : tie.After-load-slot Inv-loop μ-loop) where
-  abbrev here : tie.Start Inv-loop μ-loop
-  here = S (I q .before)
+  abbrev b : tie.Start Inv-loop μ-loop
+  b = S (I q .before)
 
   -- its answer, and the words that it leaves
-  answer : q .load-slot .result ≡ not (badSlot (H here) (here .args .at) (now (here .args .bytes)) (plan here) (slotNo (H here) (I q .before .loop .k) (here .args .p)))
-  answer =
-      q .load-slot .ensures .0
-      ∙ fine-same (now (here .args .bytes)) (from-is (I q)) (size-is (I q)) (span-is (I q)) _ _ _
-      ∙ fine-slot (H here) (here .args .at) (now (here .args .bytes)) (plan here) (I q .before .loop .k) (here .args .p) (below (I q)) (here .pre .0 .2)
+  answer : q .load-slot .result ≡ not (badSlot (H b) (b .args .at) (now (b .args .bytes)) (plan b) (slotNo (H b) (I q .before .loop .k) (b .args .p)))
+  answer = q .load-slot .ensures .0 ∙ answer-is (here (I q)) (b .args .at) (now (b .args .bytes)) (plan b) (b .pre .0 .2)
 
-  left-are : left q ≡ slotWords (now (here .args .bytes)) (place (I q .before)) (layerSize (sh here) (I q .before .loop .k)) (planeCells (sh here) (I q .before .loop .k)) (planesOf (H here) (I q .before .loop .k)) (plan here (I q .before .loop .k)) (here .args .p) (I q .before .loop .words) (blockStart (sh here) (I q .before .loop .k))
+  left-are : left q ≡ slotWords (now (b .args .bytes)) (place (I q .before)) (layerSize (sh b) (I q .before .loop .k)) (planeCells (sh b) (I q .before .loop .k)) (planesOf (H b) (I q .before .loop .k)) (plan b (I q .before .loop .k)) (b .args .p) (I q .before .loop .words) (blockStart (sh b) (I q .before .loop .k))
   left-are =
       q .load-slot .ensures .1
-      ∙ words-same (now (here .args .bytes)) (from-is (I q)) (size-is (I q)) (span-is (I q)) _ _ _ (I q .before .loop .words) (I q .before .loop .inv .2)
+      ∙ words-same (now (b .args .bytes)) (from-is (here (I q)) (b .args .at)) (here (I q) .size) (here (I q) .span) _ _ _ (I q .before .loop .words) (I q .before .loop .inv .2)
 
 -- ---- the needs
 layer-count-requires : tie.Need-layer-count-requires Inv-loop μ-loop
@@ -138,50 +103,44 @@ loop-holds c =
     (omega arith, s .pre .0 .3, sym (block-none (sh s)), λ j m. absurd (let z : ⊥ = omega arith in z), s .pre .1 .1 .1)
 
 mul-n : tie.Need-mul-n Inv-loop μ-loop
-mul-n c = omega (arith, a-layer c)
+mul-n c = omega (arith, here c .layer)
 
 array-read-n : tie.Need-array-read-n Inv-loop μ-loop
-array-read-n c = a-layer c
+array-read-n c = here c .layer
 
 mul-span : tie.Need-mul-span Inv-loop μ-loop
-mul-span c = omega (arith, a-layer c)
+mul-span c = omega (arith, here c .layer)
 
 array-read-span : tie.Need-array-read-span Inv-loop μ-loop
-array-read-span c = a-layer c
+array-read-span c = here c .layer
 
 mul-count : tie.Need-mul-count Inv-loop μ-loop
-mul-count c = omega (arith, a-layer c)
+mul-count c = omega (arith, here c .layer)
 
 element-copy-out-count : tie.Need-element-copy-out-count Inv-loop μ-loop
-element-copy-out-count c = a-layer c
+element-copy-out-count c = here c .layer
 
 mul-want : tie.Need-mul-want Inv-loop μ-loop
-mul-want c = omega (arith, a-layer (c .before))
+mul-want c = omega (arith, here (c .before) .layer)
 
 element-copy-out-want : tie.Need-element-copy-out-want Inv-loop μ-loop
-element-copy-out-want c = a-layer (c .before)
+element-copy-out-want c = here (c .before) .layer
 
 mul-from : tie.Need-mul-from Inv-loop μ-loop
-mul-from c = omega (arith, few-cells (c .before .before))
+mul-from c = omega (arith, here (c .before .before) .few)
 
 add-from : tie.Need-add-from Inv-loop μ-loop
-add-from c = let i = c .before .before in omega (arith, few-cells i, S (i .before) .pre .0 .1, S (i .before) .good)
+add-from c = let i = c .before .before in omega (arith, here i .few, S (i .before) .pre .0 .1, S (i .before) .good)
 
 load-slot-requires : tie.Need-load-slot-requires Inv-loop μ-loop
 load-slot-requires c κs =
     let i = c .before .before .before in
     let s = S (i .before) in
+    let t = here i in
     let k = i .before .loop .k in (
+      (s .pre .0 .2, t .room, omega (arith, t .narrow), omega (arith, room i, words i .long-is), s .pre .1 .0 .2),
       (
-        s .pre .0 .2,
-        few s k (below i),
-        omega (arith, size-is i, span-is i, plane-room (sh s) k),
-        omega (arith, narrow i),
-        omega (arith, room i, words i .long-is),
-        s .pre .1 .0 .2,
-      ),
-      (
-        λ e. omega (arith, from-is i, span-is i, s .pre .1 .1 .0 k (s .args .p) (below i) e),
+        λ e. omega (arith, t .before, t .span, s .pre .1 .1 .0 k (s .args .p) (t .below) e),
         λ j. omega (arith, partly-small (H s) (s .args .at) (now (s .args .bytes)) (plan s) (slotNo (H s) k (s .args .p)) (i .before .loop .words) (words i) j),
       ),
     )
@@ -200,7 +159,7 @@ same-length c =
 returns : tie.Need-returns Inv-loop μ-loop
 returns c =
     let q = c .before .before .before in
-    (below (I q), not-false _ (sym (answer q) ∙ not-true (q .load-slot .result) (c .if1 .taken)), I q .before .loop .inv .3)
+    (here (I q) .below, not-false _ (sym (answer q) ∙ not-true (q .load-slot .result) (c .if1 .taken)), I q .before .loop .inv .3)
 
 span-at-requires : tie.Need-span-at-requires Inv-loop μ-loop
 span-at-requires c κs = tt
@@ -210,15 +169,10 @@ Q c = c .before .before .before .before
 
 -- the cells up to the end of the slot's plane
 on : (c : tie.After-span-at Inv-loop μ-loop) → (let l = I (Q c) .before in l .loop .cells + c .span-at .result ≡ cellsBefore (H (S l)) (l .loop .k + 1) (S l .args .p))
-on c =
-    let i = I (Q c) in
-    let l = i .before in
-    let s = S l in
-    ap₂ (λ (x y : ℕ). x + y) (l .loop .inv .1) (c .span-at .ensures ∙ ap (λ (n : ℕ). cond (ltb (s .args .p) (planesOf (H s) (l .loop .k))) n 0) (span-is i))
-    ∙ sym (cells-next (H s) (l .loop .k) (s .args .p) (below i))
+on c = cells-on (here (I (Q c))) (c .span-at .result) (c .span-at .ensures)
 
 add-cells : tie.Need-add-cells Inv-loop μ-loop
-add-cells c = let l = I (Q c) .before in let s = S l in omega (arith, on c, cells-few (H s) (few s) (right s .shape) (l .loop .k + 1) (s .args .p))
+add-cells c = omega (arith, on c, here (I (Q c)) .few-next)
 
 mul-start : tie.Need-mul-start Inv-loop μ-loop
 mul-start c = omega (arith, room (I (Q c)))
@@ -227,7 +181,7 @@ add-start : tie.Need-add-start Inv-loop μ-loop
 add-start c = omega (arith, room (I (Q c)))
 
 add-k : tie.Need-add-k Inv-loop μ-loop
-add-k c = omega (arith, a-layer (I (Q c)))
+add-k c = omega (arith, here (I (Q c)) .layer)
 
 loop-less : tie.Need-loop-less Inv-loop μ-loop
 loop-less c = omega (arith, I (Q c) .loop-test .taken)
@@ -244,10 +198,10 @@ loop-again c =
     let good : badSlot (H s) (s .args .at) bs (plan s) (slotNo (H s) k (s .args .p)) ≡ false = not-true _ (sym (answer q) ∙ found) in (
       omega (arith, i .loop-test .taken),
       on c,
-      ap₂ (λ (x y : ℕ). x + cellPoints * y) (l .loop .inv .2) (span-is i) ∙ sym (block-next (sh s) k),
+      ap₂ (λ (x y : ℕ). x + cellPoints * y) (l .loop .inv .2) (here i .span) ∙ sym (block-next (sh s) k),
       below-more (λ (j : ℕ). badSlot (H s) (s .args .at) bs (plan s) (slotNo (H s) j (s .args .p)) ≡ false) k (l .loop .inv .3) good,
-      partly-next (H s) (s .args .at) bs (plan s) (right s .shape) k (s .args .p) (below i) (s .pre .0 .2) (l .loop .words) (words i) (left q)
-          (fine-slot (H s) (s .args .at) bs (plan s) k (s .args .p) (below i) (s .pre .0 .2) ∙ sym (answer q) ∙ found)
+      partly-next (H s) (s .args .at) bs (plan s) (right s .shape) k (s .args .p) (here i .below) (s .pre .0 .2) (l .loop .words) (words i) (left q)
+          (fine-slot (H s) (s .args .at) bs (plan s) k (s .args .p) (here i .below) (s .pre .0 .2) ∙ sym (answer q) ∙ found)
           (left-are q),
     )
 
@@ -259,7 +213,7 @@ returns-2 c =
     let l = c .before in
     let s = S l in
     let end : l .loop .k ≡ layers (sh s) = omega (arith, c .loop-test .left, l .loop .inv .0, count l) in
-    (l .loop .inv .1 ∙ ap (λ (k : ℕ). cellsBefore (H s) k (s .args .p)) end, rw end at (l .loop .inv .3), rw end at (l .loop .inv .4))
+    ((l .loop .inv .1 ∙ ap (λ (k : ℕ). cellsBefore (H s) k (s .args .p)) end, rw end at (l .loop .inv .3)), rw end at (l .loop .inv .4))
 
 pub load-place-spec : {M : Type 1} → statement M
 load-place-spec =
