@@ -62,7 +62,8 @@ uint64_t trace_card_write(const int32_t *samples, size_t samples_length, uint64_
     uint64_t step, int32_t *coefficients, size_t coefficients_length, int64_t *values, size_t values_length, uint8_t *output,
     size_t output_length, uint64_t *answer, size_t answer_length);
 
-/* Reads a card, cut or whole, with a plan. */
+/* Reads a card, cut or whole, with a plan. Digits that are not loaded are 0 in the coefficients; in the values they count as the middle of what
+ * they can be. */
 uint64_t trace_card_read(const uint8_t *card, size_t card_length, const uint64_t *plan, size_t plan_length, int32_t *coefficients,
     size_t coefficients_length, int64_t *values, size_t values_length, uint64_t *answer, size_t answer_length);
 

@@ -53,7 +53,7 @@ fn its_cuts_are_shown() {
         let (mut coefficients, mut values) = ([99; 5], [99; 5]);
         let reached = show(&card[..shown.length], &mut coefficients, &mut values);
         assert_eq!(reached, Ok(shown.reached));
-        assert_eq!(values, shown.values);
+        assert_eq!((coefficients, values), (shown.coefficients, shown.values));
     }
     let cut_in_header = show(&card[..63], &mut [99; 5], &mut [99; 5]);
     assert_eq!(cut_in_header, Err(refusal(5, [0, 0])));
@@ -65,10 +65,10 @@ fn its_cut_is_read_and_refined_to_the_same() {
     let mut coefficients = [99; 5];
     let mut values = [99; 5];
     let none = read(card, &plan(&[]), &mut coefficients, &mut values).unwrap();
-    assert_eq!(none.figure, 67);
+    assert_eq!((none.figure, values), (52, [15; 5]));
     let mut reached = none;
-    for figure in [34, 19, 10] {
-        // loss(4), loss(3), loss(2) are 10, 5, 2; times 3, plus 3 for layer 1, plus 1.
+    for figure in [28, 16, 10] {
+        // loss(4), loss(3), loss(2) are 8, 4, 2; times 3, plus 3 for layer 1, plus 1.
         reached = refine(card, &reached.plan, 0, &mut coefficients, &mut values).unwrap();
         assert_eq!(reached.figure, figure);
     }
@@ -79,9 +79,10 @@ fn its_cut_is_read_and_refined_to_the_same() {
             figure: 10
         }
     );
-    assert_eq!(values, [12, 12, 12, 24, 36]);
-    // The digits loaded are those of weights 16, -8 and 4.
+    // The digits loaded are those of weights 16, -8 and 4. The two that are missing, from -2 to 1, count
+    // as -1 in the values.
     assert_eq!(coefficients, [4, 0, 4, 0, 12]);
+    assert_eq!(values, [9, 9, 9, 21, 33]);
     assert_eq!(
         refine(card, &reached.plan, 0, &mut coefficients, &mut values),
         Err(refusal(9, [0, 0]))
@@ -140,7 +141,7 @@ fn the_narrow_example() {
 #[test]
 fn the_losses() {
     let losses: Vec<u64> = (0..6).map(loss).collect();
-    assert_eq!(losses, [0, 1, 2, 5, 10, 21]);
+    assert_eq!(losses, [0, 1, 2, 4, 8, 16]);
 }
 
 /// Writes a sheet of zeros, with one sample replaced.
@@ -194,7 +195,7 @@ fn the_programs_print() {
     let card = bench::card();
     assert_eq!(
         shown(&card[..160]),
-        "rows=1\ncols=5\nloaded=3,0,0\nfigure=10\nrow=12,12,12,24,36\n"
+        "rows=1\ncols=5\nloaded=3,0,0\nfigure=10\nrow=9,9,9,21,33\n"
     );
     assert_eq!(shown(&card[..63]), "refused=5\n");
     for (length, text, status) in [(160, bench::ROLL, 0), (63, "refused=5\n", 1)] {

@@ -105,20 +105,21 @@ fn figures_of_0() {
 }
 
 /// The figure of a cut card has the losses of its missing planes in it. Cut at byte 160 the bench card
-/// shows 12, 12, 12, 24 and 36 with the figure 10, and cut behind its header five zeros with the figure 67.
+/// shows 9, 9, 9, 21 and 33 with the figure 10, and cut behind its header 15 five times with the figure 52.
 #[test]
 fn figures_of_cut_cards() {
     let card = bench::card();
-    // 10 off: 22, 2 and 34; 11 off: 1 and 47.
-    let exact = row(0, &[22, 1, 2, 34, 47]);
+    // 10 off: 19, -1 and 31; 11 off: 20 and 44.
+    let exact = row(0, &[19, 20, -1, 31, 44]);
     assert_eq!(marks(&card[..160], &exact), [0, 1, 0, 0, 1]);
     assert_eq!(marks(&card[..64], &exact), [0; 5]);
-    let exact = row(0, &[67, 68, -67, -68, 0]);
+    // 52 off: 67 and -37.
+    let exact = row(0, &[67, 68, -37, -38, 0]);
     assert_eq!(marks(&card[..64], &exact), [0, 1, 0, 1, 0]);
-    // Width 7 and figure 3, so that 70 off agrees: 70, 77, -70, -77 and 63.
-    let coarse = row(3, &[10, 11, -10, -11, 9]);
+    // Width 7 and figure 3, so that 55 off agrees: 70, but not 77; -35, but not -42; 63.
+    let coarse = row(3, &[10, 11, -5, -6, 9]);
     assert_eq!(marks(&card[..64], &coarse), [0, 1, 0, 1, 0]);
-    // A cut on both sides: 19 and 67, or 19 and 10, are more than any two values are off.
+    // A cut on both sides: 16 and 52, or 16 and 10, are more than any two values are off.
     for lengths in [[159, 64], [159, 160]] {
         let [first, second] = lengths.map(|length| &card[..length]);
         assert_eq!(marks(first, second), [0; 5]);

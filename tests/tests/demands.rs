@@ -4,9 +4,10 @@
 mod common;
 
 use common::{
-    cells_by_hand, every_plan, fewer_backwards, figure_by_hand, furthest, plan, refusal, sizes_of,
-    whole_in,
+    card_with, cells_by_hand, every_plan, fewer_backwards, figure_by_hand, furthest, plan, refusal,
+    sizes_of, whole_in,
 };
+use trace_card_tests::model::digits::high;
 use trace_card_tests::model::{
     figure, open, plan_by_limit, read, refine, show, write, Curve, Opened, Plan, Reached, Refusal,
     MAX_LAYERS,
@@ -332,9 +333,9 @@ fn random_cuts_at_the_edge_of_narrow_are_shown_within_their_figure() {
     }
 }
 
-/// One row with one level, cubic, step 0, pulled at the header's end, so that every value is 0: how far
+/// One row with one level, cubic, step 0, of which two planes of the anchors are missing: the values, how far
 /// off they are, and the figure.
-fn with_no_planes(samples: &[i32]) -> (u64, u64) {
+fn without_two_planes(samples: &[i32]) -> (Vec<i64>, u64, u64) {
     let case = Case {
         rows: 1,
         cols: samples.len() as u64,
@@ -344,22 +345,67 @@ fn with_no_planes(samples: &[i32]) -> (u64, u64) {
         samples: samples.to_vec(),
     };
     let card = case.write().card;
-    // The samples between anchors are as predicted, so all planes are of layer 0: 1 is 1 in digits and
-    // -2 is 10.
-    let opened = open(&card).unwrap();
-    assert_eq!(opened.planes, [2, 0, 0]);
-    let shown = show_all(&case, &card[..opened.header_length]).unwrap();
-    (furthest(&shown.values, samples), shown.reached.figure)
+    // The samples between anchors are as predicted, so all planes are of layer 0: 1 is 1 in digits, -2 is
+    // 10 and -3 is 1101.
+    assert_eq!(open(&card).unwrap().planes, [4, 0, 0]);
+    let shown = show_all(&case, &card[..card.len() - 64]).unwrap();
+    let worst = furthest(&shown.values, samples);
+    (shown.values, worst, shown.reached.figure)
 }
 
 /// Sheets with a value that is just as far off as the figure says, so no smaller one would hold.
 #[test]
 fn the_figure_is_used_up_by_narrow_sheets_and_others() {
-    // loss(2) = 2. The anchors in columns 0, 2, 4 and 6 are 1, -2, -2 and 1. In seven columns column 3
-    // has all four neighbours: (-1 - 18 - 18 - 1) / 16 rounded down is -3, and 2 is carried to 3.
-    assert_eq!(with_no_planes(&[1, -1, -2, -3, -2, -1, 1]), (3, 3));
-    // In six it has not: (-2 - 2) / 2 = -2, and column 5 is as column 4.
-    assert_eq!(with_no_planes(&[1, -1, -2, -2, -2, -2]), (2, 2));
+    // loss(2) = 2. The anchors in columns 0, 2, 4 and 6 are -2, -3, 1 and -2. Their two low digits count as
+    // -1: they are shown as -1, -5, -1 and -1. In seven columns column 3 has all four neighbours: it is
+    // (2 - 27 + 9 + 2) / 16 rounded down, -1, and shown as (1 - 45 - 9 + 1) / 16 rounded down, -4. So 2 is
+    // carried to 3.
+    let (values, worst, figure) = without_two_planes(&[-2, -3, -3, -1, 1, -1, -2]);
+    assert_eq!(values, [-1, -3, -5, -4, -1, -1, -1]);
+    assert_eq!((worst, figure), (3, 3));
+    // In six it has not: it is (-3 + 1) / 2 and shown as (-5 - 1) / 2, and column 5 is as column 4.
+    let (values, worst, figure) = without_two_planes(&[-2, -3, -3, -1, 1, 1]);
+    assert_eq!(values, [-1, -3, -5, -3, -1, -1]);
+    assert_eq!((worst, figure), (2, 2));
+}
+
+/// A linear sheet of the greatest coefficients that so many digits hold, each sample a step above its value.
+/// Their low digits are the greatest too, however many are missing. Rows and columns are multiples of 2^L (or
+/// there is one row), so the last point is predicted from one point in every layer, and what the layers lose
+/// is added up on the way to it.
+#[test]
+fn the_figure_is_used_up_at_every_cut_of_a_linear_sheet() {
+    for ((rows, cols), levels, step, digits) in [
+        ((1, 1), 0, 65_535, 3),
+        ((1, 8), 3, 0, 15),
+        ((4, 6), 1, 1, 13),
+        ((8, 4), 2, 40, 9),
+        ((64, 64), 6, 7, 11),
+        ((1, 512), 6, 1000, 5),
+    ] {
+        let points = (rows * cols) as usize;
+        let coefficients = vec![high(digits) as i32; points];
+        let made = card_with((rows, cols), levels, "linear", step, &coefficients);
+        let (mut q, mut values) = (vec![0; points], vec![0; points]);
+        show(&made, &mut q, &mut values).unwrap();
+        let above = values.iter().map(|value| value + step as i64);
+        let case = Case {
+            rows,
+            cols,
+            levels,
+            curve: Curve::Linear,
+            step,
+            samples: above.map(|sample| sample as i32).collect(),
+        };
+        let card = case.write().card;
+        assert_eq!(card, made);
+        let opened = open(&card).unwrap();
+        for length in (opened.header_length..=card.len()).step_by(32) {
+            let shown = show_all(&case, &card[..length]).unwrap();
+            let worst = furthest(&shown.values, &case.samples);
+            assert_eq!(worst, shown.reached.figure, "{rows} by {cols}, {length}");
+        }
+    }
 }
 
 /// A limit worth asking for: the step, or about the figure of some plan.

@@ -8,7 +8,7 @@ use common::document::{digits, example, grouped, joined, listed, says, section, 
 use common::{bench, files, narrow, plan};
 use trace_card_tests::boundary::ANSWER;
 use trace_card_tests::model::digits::{
-    digits_of, weight, GREATEST_COEFFICIENT, LEAST_COEFFICIENT, MOST_DIGITS,
+    digits_of, high, low, middle, weight, GREATEST_COEFFICIENT, LEAST_COEFFICIENT, MOST_DIGITS,
 };
 use trace_card_tests::model::figure::{carry, is_narrow, layer_carry, loss};
 use trace_card_tests::model::header::print;
@@ -28,8 +28,8 @@ use trace_card_tests::model::sheet::{
 use trace_card_tests::model::steps::{coefficient, rebuilt, width, LARGEST_STEP};
 use trace_card_tests::model::write::OUTPUT_BYTES;
 use trace_card_tests::model::{
-    compare, figure, open, plan_by_cells, plan_by_limit, roll, show, write, Compared, Curve,
-    Opened, Plan, Planned, Reached, Refusal, MAX_LAYERS,
+    compare, figure, open, plan_by_cells, plan_by_limit, refine, roll, show, write, Compared,
+    Curve, Opened, Plan, Planned, Reached, Refusal, MAX_LAYERS,
 };
 use trace_card_tests::random::cases::{Case, Written};
 use trace_card_tests::random::Random;
@@ -118,11 +118,19 @@ fn the_reach_of_digits() {
     for n in 0..=MOST_DIGITS {
         let [h, j] = [n / 2, n.div_ceil(2)].map(|half| 4_i64.pow(half as u32));
         assert_eq!((-2 * (h - 1) / 3, (j - 1) / 3), reach(n));
+        assert_eq!((low(n), high(n)), reach(n));
+        assert_eq!(middle(n), (low(n) + high(n)).div_euclid(2));
     }
     let part = section("5. Digits");
-    let words = "n digits reach from -2(4^h - 1)/3 to (4^j - 1)/3, where h is n/2 rounded down \
-                 and j is n/2 rounded up,";
+    let words = "n digits reach from low(n) = -2(4^h - 1)/3 to high(n) = (4^j - 1)/3, where h is \
+                 n/2 rounded down and j is n/2 rounded up,";
     says(&part, words);
+    let middles = joined(&(0..=5).map(middle).collect::<Vec<_>>(), ", ");
+    let words = format!(
+        "Their *middle* is middle(n) = (low(n) + high(n)) / 2 rounded down: {middles} for n = 0 to \
+         5."
+    );
+    says(&part, &words);
 
     let (least, greatest) = reach(MOST_DIGITS);
     assert_eq!(least, LEAST_COEFFICIENT.into());
@@ -202,8 +210,12 @@ fn the_planes_before_a_plane() {
 
 #[test]
 fn losses_and_carries() {
-    for d in 0..=MOST_DIGITS {
-        assert_eq!(loss(d), 2_u64.pow(d as u32 + 1) / 3);
+    assert_eq!(loss(0), 0);
+    for d in 1..=MOST_DIGITS {
+        assert_eq!(loss(d), 2_u64.pow(d as u32 - 1));
+        assert_eq!(high(d).abs_diff(low(d)) + 1, 2_u64.pow(d as u32));
+        assert_eq!(high(d) - middle(d), loss(d) as i64);
+        assert_eq!(middle(d) - low(d), loss(d) as i64 - 1);
     }
     for m in 0..1000 {
         assert_eq!(carry(Curve::Linear, m), m);
@@ -212,7 +224,10 @@ fn losses_and_carries() {
     let losses: Vec<u64> = (0..=5).map(loss).collect();
     let losses = joined(&losses, ", ");
     let part = section("9. The figure");
-    let words = format!("loss(d) = 2^(d+1) / 3 rounded down: {losses} for d = 0 to 5.");
+    let words = format!(
+        "loss(d) = 2^(d-1), and loss(0) = 0: {losses} for d = 0 to 5. (One digit or more make 2^d \
+         numbers in a row, from 2^(d-1) - 1 below their middle to 2^(d-1) above it.)"
+    );
     says(&part, &words);
     let words = "by the linear curve M stays M, and by the cubic one it becomes 5M / 4 rounded up";
     says(&part, words);
@@ -278,6 +293,54 @@ fn the_refusals() {
     }
 }
 
+/// A value from its prediction, the coefficient handed back and the middle of the missing digits, at every point
+/// of the pulled bench card.
+#[test]
+fn missing_digits() {
+    let bench = Example::bench();
+    let (shape, w) = (bench.opened.shape(), width(bench.case.step) as i64);
+    for length in (bench.opened.header_length..=bench::CARD_BYTES).step_by(32) {
+        let (coefficients, values, Reached { plan, .. }) = bench.pulled(length).unwrap();
+        for (k, layer) in shape.layers().into_iter().enumerate() {
+            let d = bench.opened.planes[k] - plan[k];
+            for point in shape.points_of(layer) {
+                let place = shape.place(point);
+                let predicted = predict(&values, shape, bench.case.curve, layer, point);
+                let counted = i64::from(coefficients[place]) + middle(d);
+                assert_eq!(values[place], predicted + counted * w);
+            }
+        }
+    }
+    let part = section("8. Plans, reading, refining");
+    let words = format!(
+        "Of layer k the lowest d digits are *missing*, where d is P_k less the planes that the plan \
+         loads of it. Each coefficient q is handed back as the sum of its digits (section 5), the \
+         missing ones being 0. In the values they count as their middle: in layer order, each value \
+         is its prediction from the values before, plus (q + middle(d)) × w. Where none are \
+         missing, that is q × w, since middle(0) = {}.",
+        middle(0)
+    );
+    says(&part, &words);
+}
+
+/// From no planes of the bench card to three, one at a time: each time all is as showing the first so many planes
+/// leaves it.
+#[test]
+fn missing_digits_are_refined() {
+    let bench = Example::bench();
+    let (mut coefficients, mut values, none) = bench.pulled(64).unwrap();
+    let mut reached = none;
+    for length in [96, 128, 160] {
+        let (card, before) = (&bench.written.card, reached.plan);
+        reached = refine(card, &before, 0, &mut coefficients, &mut values).unwrap();
+        let now = (coefficients.clone(), values.clone(), reached);
+        assert_eq!(bench.pulled(length), Ok(now));
+    }
+    let words = "All values are made anew from the coefficients, as reading with the plan reached \
+                 makes them: what is still missing of any layer counts as its middle.";
+    says(&section("8. Plans, reading, refining"), words);
+}
+
 #[test]
 fn plans_and_answers() {
     let part = section("8. Plans, reading, refining");
@@ -320,11 +383,16 @@ fn the_roll() {
 }
 
 /// What a value can come to: each layer carries what stands before it, as the figure does where none is
-/// narrow, and adds a coefficient times the width.
+/// narrow, and adds a coefficient times the width. Where its lowest digits count as their middle, that is between
+/// the ends of what they can be, so it stays in the range of all its digits.
 #[test]
 fn the_places_of_the_roll_are_enough() {
+    // A middle is one of the numbers of its digits.
+    for d in 0..=MOST_DIGITS {
+        assert!((low(d)..=high(d)).contains(&middle(d)));
+    }
     let largest = GREATEST_COEFFICIENT.max(-LEAST_COEFFICIENT) as u64;
-    let own = largest * width(LARGEST_STEP);
+    let own = 2 * largest * width(LARGEST_STEP);
     let most = (0..MAX_LAYERS).fold(0, |before, _| carry(Curve::Cubic, before) + own);
     let digits = VALUE_PLACES - 1;
     assert!(most < 10_u64.pow(digits as u32), "{most}");
@@ -333,9 +401,9 @@ fn the_places_of_the_roll_are_enough() {
     assert_eq!([ROW_PLACES, COLUMN_PLACES], [last.len(); 2]);
     let words = format!(
         "no value of any card that reading accepts has more than {VALUE_PLACES} characters with \
-         its sign, since coefficients of {MOST_DIGITS} digits, the largest width and {MAX_LAYERS} \
-         layers cannot make one of more than {digits} digits; no row or column has more than \
-         {ROW_PLACES}, and the figure, a 64-bit number, no more than {}.",
+         its sign, since coefficients and middles of {MOST_DIGITS} digits, the largest width and \
+         {MAX_LAYERS} layers cannot make one of more than {digits} digits; no row or column has more \
+         than {ROW_PLACES}, and the figure, a 64-bit number, no more than {}.",
         u64::MAX.to_string().len()
     );
     says(&section("12. The calls"), &words);
@@ -647,27 +715,44 @@ fn the_bench_card_is_pulled() {
     let (coefficients, values, Reached { plan, figure }) = bench.pulled(160).unwrap();
     let [first, second] = [0, 1].map(|layer| bench.opened.planes[layer] - plan[layer]);
     let [anchors, _] = bench.columns();
+    // The anchors' coefficients, and as they count in the values.
+    let listed_at = |missing: u64, coefficients: &[i32]| {
+        let plain = at(&anchors, coefficients);
+        let counted = plain.iter().map(|&q| i64::from(q) + middle(missing));
+        let counted = listed(&counted.collect::<Vec<_>>());
+        (listed(&plain), counted)
+    };
+    let (plain, counted) = listed_at(first, &coefficients);
     bench.says(&format!(
-        "Pulled at byte 160 it holds {} planes. The anchors' digits at places {} count as 0, so \
-         the coefficients are {}; the values are {} (in row order), the plan is {} and the figure \
-         is {e} + (loss({first}) × {w} + loss({second}) × {w}) = {e} + {} + {} = {figure}.",
+        "Pulled at byte 160 it holds {} planes. The anchors' digits at places {} are missing, so \
+         the coefficients are {plain}, and count as {counted} in the values, since middle({first}) \
+         = {}. The one digit of layer 1 counts as middle({second}) = {}. The values are {} (in row \
+         order), the plan is {} and the figure is {e} + (loss({first}) × {w} + loss({second}) × \
+         {w}) = {e} + {} + {} = {figure}.",
         plan.iter().sum::<u64>(),
         listed(&(0..first).rev().collect::<Vec<_>>()),
-        listed(&at(&anchors, &coefficients)),
+        middle(first),
+        middle(second),
         joined(&values, " "),
         said(&plan),
         loss(first) * w,
         loss(second) * w,
     ));
 
-    let (_, _, two) = bench.pulled(159).unwrap();
-    let (_, _, none) = bench.pulled(64).unwrap();
+    let (coefficients, values, two) = bench.pulled(159).unwrap();
+    let (plain, counted) = listed_at(bench.opened.planes[0] - two.plan[0], &coefficients);
+    let (_, all_alike, none) = bench.pulled(64).unwrap();
     assert_eq!(none.plan, [0; MAX_LAYERS]);
+    let all = bench.opened.planes[0];
     bench.says(&format!(
-        "Pulled at byte 159 the third plane is not whole: plan {}, figure {}. At byte 64: no \
-         planes, figure {}. At byte 63 the header is cut: refusal {}.",
+        "Pulled at byte 159 the third plane is not whole: plan {}, coefficients {plain}, which \
+         count as {counted}, values {}, figure {}. At byte 64: no planes, the anchors count as \
+         middle({all}) = {}, values {}, figure {}. At byte 63 the header is cut: refusal {}.",
         said(&two.plan),
+        joined(&values, " "),
         two.figure,
+        middle(all),
+        joined(&all_alike, " "),
         none.figure,
         bench.pulled(63).unwrap_err().number,
     ));
@@ -878,9 +963,19 @@ fn the_figures_of_the_cubic_example() {
         (first, second, loss(first), carry(Curve::Cubic, loss(first)))
     };
     let (first, second, own, carried) = lost(&none);
+    let (_, values, _) = cubic.pulled(cubic.opened.header_length).unwrap();
+    let anchor = middle(first);
+    let [anchors, others] = cubic.columns();
+    assert!(at(&anchors, &values).iter().all(|&value| value == anchor));
+    let other = anchor + middle(second);
+    assert!(at(&others, &values).iter().all(|&value| value == other));
     cubic.says(&format!(
-        "With no planes the figure is {}: layer 0 has lost loss({first}) = {own}, which layer 1 \
-         carries to {} / 4 rounded up, {carried}, and adds loss({second}) = {}.",
+        "With no planes the anchors are middle({first}) = {anchor}, every other column is predicted \
+         as {anchor} and adds middle({second}) = {}: the values are {}. The figure is {}: layer 0 \
+         has lost loss({first}) = {own}, which layer 1 carries to {} / 4 rounded up, {carried}, and \
+         adds loss({second}) = {}.",
+        middle(second),
+        joined(&values, " "),
         figure(&none),
         5 * own,
         loss(second),

@@ -4,12 +4,15 @@ mod common;
 
 use common::card_with;
 use common::extremes::Sheet;
+use common::missing::{any_coefficients, every_missing, made_up};
 use trace_card_tests::fast;
 use trace_card_tests::model::roll::page_bytes;
-use trace_card_tests::model::{self, open, Compared, Reached, Refusal};
+use trace_card_tests::model::{self, open, Compared, Plan, Reached, Refusal};
 use trace_card_tests::random::cases::{shapes_at_narrow_edge, Case, CURVES, LARGE_SIZES};
 use trace_card_tests::random::Random;
 
+type Show = fn(&[u8], &mut [i32], &mut [i64]) -> Result<Reached, Refusal>;
+type Refine = fn(&[u8], &Plan, u64, &mut [i32], &mut [i64]) -> Result<Reached, Refusal>;
 type Roll = fn(&[u8], &mut [i32], &mut [i64], &mut [u8]) -> Result<Reached, Refusal>;
 
 /// The roll of a card, on a page that is long enough or about as long; sometimes with something else
@@ -92,6 +95,35 @@ fn check(random: &mut Random, case: &Case) {
         fast::plan_by_cells(cut, cells),
         model::plan_by_cells(cut, cells)
     );
+}
+
+/// Cards of 23 digits in every layer that has points, shown at any cut, and refined from any coefficients with
+/// every number of digits missing.
+#[test]
+fn missing_digits_of_made_up_cards() {
+    let mut random = Random::new(565);
+    for size in [(1, 65), (66, 1), (33, 34)] {
+        for (curve, step) in [("linear", 0), ("cubic", 1), ("cubic", 65_535)] {
+            let (coefficients, card) = made_up(&mut random, size, 6, curve, step);
+            let opened = open(&card).unwrap();
+            let points = coefficients.len();
+            for plan in every_missing(&opened) {
+                let cut = &card[..random.length(opened.header_length, card.len())];
+                let left = |show: Show| {
+                    let (mut q, mut v) = (vec![5; points], vec![5; points]);
+                    (show(cut, &mut q, &mut v), q, v)
+                };
+                assert_eq!(left(fast::show), left(model::show));
+                let layer = random.below(13);
+                let any = any_coefficients(&mut random, points);
+                let left = |refine: Refine| {
+                    let (mut q, mut v) = (any.clone(), vec![5; points]);
+                    (refine(&card, &plan, layer, &mut q, &mut v), q, v)
+                };
+                assert_eq!(left(fast::refine), left(model::refine));
+            }
+        }
+    }
 }
 
 /// Values of every length, with both signs, up to the longest there are.

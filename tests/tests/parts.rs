@@ -2,13 +2,15 @@
 
 mod common;
 
-use common::{layer_of, layer_places, loss_by_hand, planes_on_card};
-use trace_card_tests::model::digits::{digits_of, weight};
+use common::missing::{every_missing, made_up, plain};
+use common::{layer_of, layer_places, loss_by_hand, middle_by_hand, plan, planes_on_card};
+use trace_card_tests::model::digits::{digits_of, high, low, middle, weight};
 use trace_card_tests::model::figure::{carry, is_narrow, loss};
 use trace_card_tests::model::predict::{cubic, linear, neighbours};
 use trace_card_tests::model::sheet::Shape;
-use trace_card_tests::model::{open, Curve};
-use trace_card_tests::random::cases::{shapes_at_narrow_edge, Case, Written, LARGE_SIZES};
+use trace_card_tests::model::{open, read, Curve, Plan};
+use trace_card_tests::random::cases::{shapes_at_narrow_edge, Case, Written, CURVES, LARGE_SIZES};
+use trace_card_tests::random::plans::plan_within;
 use trace_card_tests::random::sheets::KINDS;
 use trace_card_tests::random::Random;
 
@@ -68,20 +70,30 @@ fn digits_add_up_to_their_number() {
     }
 }
 
+/// Every group of so many digits: the ends, the middle between them, and how far from it any of them is.
 #[test]
-fn loss_is_the_most_that_digits_can_be() {
-    for d in 0..=16_u32 {
-        let most = (0..1_u32 << d)
-            .map(|group| {
-                let digits = (0..d).filter(|p| group >> p & 1 == 1);
-                digits.map(|p| (-2_i64).pow(p)).sum::<i64>().unsigned_abs()
-            })
-            .max();
-        assert_eq!(Some(loss(u64::from(d))), most);
+fn the_middle_and_the_most_that_is_lost() {
+    for d in 0..=16 {
+        let sums: Vec<i64> = (0..1_u64 << d)
+            .map(|group| (0..d).filter(|p| group >> p & 1 == 1).map(weight).sum())
+            .collect();
+        let (least, greatest) = (*sums.iter().min().unwrap(), *sums.iter().max().unwrap());
+        assert_eq!((low(d), high(d)), (least, greatest));
+        let halves = least + greatest;
+        assert!(2 * middle(d) <= halves && halves < 2 * (middle(d) + 1));
+        let furthest = sums.iter().map(|sum| sum.abs_diff(middle(d))).max();
+        assert_eq!(Some(loss(d)), furthest);
+        // The furthest is the greatest, and the least is one nearer.
+        assert_eq!(greatest.abs_diff(middle(d)), loss(d));
+        assert_eq!(middle(d).abs_diff(least), loss(d).saturating_sub(1));
     }
     for d in 0..=23 {
+        assert_eq!(middle(d), middle_by_hand(d));
         assert_eq!(loss(d), loss_by_hand(d));
     }
+    let middles: Vec<i64> = (0..8).map(middle).collect();
+    assert_eq!(middles, [0, 0, -1, 1, -3, 5, -11, 21]);
+    assert_eq!(middle(23), 1_398_101);
 }
 
 #[test]
@@ -220,6 +232,58 @@ fn check_by_the_rules(case: &Case, written: &Written) {
     let expected: Vec<i64> = written.coefficients.iter().map(|&q| i64::from(q)).collect();
     assert_eq!(sums, expected);
     assert_eq!(end_of_last, written.card.len());
+}
+
+/// A reading of a card with these settings and coefficients: those left hold plain digits, the missing ones 0, and
+/// in the values they count as their middle.
+fn check_reading(case: &Case, card: &[u8], whole: &[i32], plan: &Plan) {
+    let opened = open(card).unwrap();
+    let (mut coefficients, mut values) = (vec![7; whole.len()], vec![7; whole.len()]);
+    read(card, plan, &mut coefficients, &mut values).unwrap();
+    assert_eq!(coefficients, plain(&opened, plan, whole));
+    let w = 2 * case.step as i64 + 1;
+    for (place, &q) in coefficients.iter().enumerate() {
+        let (row, col) = (place as u64 / case.cols, place as u64 % case.cols);
+        let layer = layer_of(case.levels, row, col);
+        let counted = i64::from(q) + middle_by_hand(opened.planes[layer] - plan[layer]);
+        let predicted = prediction(case, &values, row, col);
+        assert_eq!(values[place], predicted + counted * w);
+    }
+}
+
+#[test]
+fn readings_of_written_cards_follow_the_rules() {
+    let mut random = Random::new(105);
+    for _ in 0..1000 {
+        let case = Case::small(&mut random);
+        let written = case.write();
+        let opened = open(&written.card).unwrap();
+        for plan in [plan(&[]), plan_within(&mut random, &opened.planes)] {
+            check_reading(&case, &written.card, &written.coefficients, &plan);
+        }
+    }
+    for (rows, cols) in LARGE_SIZES {
+        let case = Case::of_size(&mut random, rows, cols);
+        let written = case.write();
+        let plan = plan_within(&mut random, &open(&written.card).unwrap().planes);
+        check_reading(&case, &written.card, &written.coefficients, &plan);
+    }
+}
+
+/// Coefficients of all 23 digits in all layers that have points, with every number of them missing in each.
+#[test]
+fn readings_of_made_up_cards_follow_the_rules() {
+    let mut random = Random::new(106);
+    for (rows, cols) in [(1, 1), (1, 65), (66, 1), (33, 34)] {
+        for (curve, name) in CURVES.into_iter().zip(["linear", "cubic"]) {
+            let mut case = Case::of_size(&mut random, rows, cols);
+            (case.levels, case.curve) = (6, curve);
+            let (coefficients, card) = made_up(&mut random, (rows, cols), 6, name, case.step);
+            for plan in every_missing(&open(&card).unwrap()) {
+                check_reading(&case, &card, &coefficients, &plan);
+            }
+        }
+    }
 }
 
 #[test]

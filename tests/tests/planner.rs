@@ -221,7 +221,7 @@ fn every_number_of_cells_on_small_cards() {
 #[test]
 fn ties_go_to_fewer_planes_from_the_last_layer_backwards() {
     // One row of five, linear, width 1: a plane of either layer is one cell, and losses
-    // are 0 1 2 5. With 2,2 planes and 3 loaded, 2,1 and 1,2 both have figure 1.
+    // are 0 1 2 4. With 2,2 planes and 3 loaded, 2,1 and 1,2 both have figure 1.
     let card = header((1, 5), 1, Curve::Linear, 0, &[2, 2, 0]);
     let expected = Planned {
         plan: plan(&[2, 1]),
@@ -252,18 +252,18 @@ fn ties_go_to_fewer_planes_from_the_last_layer_backwards() {
 
 #[test]
 fn the_smaller_figure_comes_before_the_order_of_layers() {
-    // Losses are 0 1 2 5 10 21. With 2,5 planes no plane leaves 2 + 21; one cell leaves
-    // 1 + 21 or 2 + 10. Both are within 22, and the smaller is in the later layer.
+    // Losses are 0 1 2 4 8 16. With 2,5 planes no plane leaves 2 + 16; one cell leaves
+    // 1 + 16 or 2 + 8. Both are within 17, and the smaller is in the later layer.
     let card = header((1, 5), 1, Curve::Linear, 0, &[2, 5, 0]);
-    for (first, own) in [([0, 0], 23), ([1, 0], 22), ([0, 1], 12)] {
+    for (first, own) in [([0, 0], 18), ([1, 0], 17), ([0, 1], 10)] {
         assert_eq!(figure(&card, &plan(&first)), Ok(own));
     }
     let expected = Planned {
         plan: plan(&[0, 1]),
         cells: 1,
-        figure: 12,
+        figure: 10,
     };
-    assert_eq!(plan_by_limit(&card, 22), Ok(expected));
+    assert_eq!(plan_by_limit(&card, 17), Ok(expected));
     assert_eq!(plan_by_cells(&card, 1), Ok(expected));
 }
 

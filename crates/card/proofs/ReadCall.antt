@@ -6,14 +6,18 @@ use Prim.Native.Nat.{ℕ, _-_, _<_, _≤_}
 use native.Mathlib.Omega.{arith}
 use borrow.Author.Tests.{ltb-false, lt-ltb, le-ltb, le-leb, eq-eqb, ne-eqb}
 use lib.Dec.{ltb, eqb}
-use lib.IntN.{ℤ}
+use lib.IntN.{ℤ, pos}
 use lib.ListN.{length, drop, length-append}
 use Rattle.integers.proofs.Bools.{by, and-left, and-right, and-both}
+use Rattle.digits.specs.Digits.{middle}
 use Rattle.layers.specs.Samples.{full}
 use Rattle.layers.specs.Workings.Calls.{settled, rebuildable, rebuilding}
 use Rattle.layers.specs.Layering.{layering, rebuilt}
 use Rattle.sheet.specs.Limits.{layersMost, stepMost}
-use Rattle.sheet.specs.Sheet.{points}
+use Rattle.sheet.specs.Lists.{at}
+use Rattle.sheet.specs.Sheet.{points, layers}
+use Rattle.sheet.proofs.Lists.{getD-tabulate}
+use Rattle.layers.proofs.Counted.{counted-same}
 use Rattle.layers.proofs.Answers.{full-yes, full-long}
 use Rattle.header.specs.declared.Header.{Header}
 use Rattle.header.specs.declared.Details.{Details}
@@ -23,7 +27,7 @@ use Rattle.header.specs.declared.Refusal.{Refusal}
 use Rattle.header.specs.declared.Refusal.the-variants as F
 use Rattle.header.specs.Refusals.{refusal, detailsOf}
 use Rattle.header.specs.Header.{planesOf, headerText}
-use Rattle.header.specs.Plan.{loads, firstOver}
+use Rattle.header.specs.Plan.{loads, missing, firstOver}
 use Rattle.header.specs.Opening.{Opening, opening, wellFormed}
 use Rattle.header.specs.Opening as O
 use Rattle.order.specs.CardOrder.{slots, whole, wholeOf}
@@ -32,14 +36,14 @@ use Rattle.figure.specs.Figure.{figureOf}
 use Rattle.figure.specs.Workings.{boundOf}
 use Rattle.figure.proofs.FigureCall.{bound-right}
 use Rattle.header.proofs.Over.{over-le}
-use Rattle.header.proofs.WellFormed.{right-yes}
+use Rattle.header.proofs.WellFormed.{right-yes, layers-few, few-planes}
 use Rattle.header.proofs.Opens.{Opens, opened-right}
 use Rattle.header.proofs.Refusing.{opened-accepts}
 use Rattle.loading.specs.InBytes.{firstBad, coefsRead}
 use Rattle.loading.specs.Workings.Calls.{Loading, asLoading, loadable, loading, allWhole, wholeLoaded}
 use Rattle.loading.proofs.Loads.{coefs-long, loadable-by, whole-is, plan-within}
-use Rattle.card.specs.Reading.{Reading, notRead, unless, goodLengths, firstRefusal, readOpened, afterOpening}
-use Rattle.card.specs.Workings.{finished}
+use Rattle.card.specs.Reading.{Reading, valuesWith, notRead, unless, goodLengths, firstRefusal, readOpened, afterOpening}
+use Rattle.card.specs.Workings.{middlesOf, finished}
 
 -- ---- what a reading that is not refused answers
 abbrev pub readAs : Header → ℕ → List ℕ → Plan → Reading
@@ -49,17 +53,25 @@ readAs h long bs plan =
       plan = plan;
       figure = figureOf h (loads plan);
       coefficients = coefsRead h long bs (loads plan);
-      values = rebuilt (layering (h .shape) (h .curve)) (h .step) (coefsRead h long bs (loads plan));
+      values = valuesWith h plan (coefsRead h long bs (loads plan));
     }
 
 -- ---- the calls that reading makes, behind a right header
-module _ (h : Header) (r : wellFormed h ≡ true) where
-  rebuilt-is : (qs vs : List ℤ) → length qs ≡ points (h .shape) → length vs ≡ points (h .shape)
-      → rebuilding (h .shape) (h .curve) (h .step) qs vs ≡ rebuilt (layering (h .shape) (h .curve)) (h .step) qs
-  unfolding rebuilding rebuildable settled full
-  rebuilt-is qs vs q v =
+module _ (h : Header) (r : wellFormed h ≡ true) (plan : Plan) where
+  -- as many digits are counted as are missing
+  middle-at : (k : ℕ) → k < layers (h .shape) → at (middlesOf h plan) k ≡ middle (missing h (loads plan) k)
+  unfolding middlesOf
+  middle-at k hk =
+      let s = right-yes h r in
+      getD-tabulate layersMost _ k (pos 0) (omega (arith, layers-few s)) ∙ ap middle (omega (arith, few-planes s k hk))
+
+  values-are : (qs vs : List ℤ) → length qs ≡ points (h .shape) → length vs ≡ points (h .shape)
+      → rebuilding (h .shape) (h .curve) (h .step) (middlesOf h plan) qs vs ≡ valuesWith h plan qs
+  unfolding rebuilding rebuildable settled full valuesWith
+  values-are qs vs q v =
       let s = right-yes h r in
       rw (s .shape, le-leb (h .step) stepMost (s .step), eq-eqb (length qs) (points (h .shape)) q, eq-eqb (length vs) (points (h .shape)) v)
+      (ap (rebuilt (layering (h .shape) (h .curve)) (h .step)) (counted-same (h .shape) (s .shape) qs q (at (middlesOf h plan)) _ middle-at))
 
 -- ---- the lengths of the slices
 module _ (qs vs : List ℤ) (h : Header) where
@@ -83,7 +95,7 @@ module _ (qs vs : List ℤ) (h : Header) where
     lengths-differ d = rw (e, ne-eqb (length qs) (points (h .shape)) (λ q. d (q ∙ sym e)))
 
 -- ---- what follows the planes
-pub finished-yes : (r : Refusal) → r ≡ F.Accepted → (h : Header) (plan : Plan) (qs vs v : List ℤ) (n : ℕ) → v ≡ rebuilding (h .shape) (h .curve) (h .step) qs vs → n ≡ boundOf h plan .figure
+pub finished-yes : (r : Refusal) → r ≡ F.Accepted → (h : Header) (plan : Plan) (qs vs v : List ℤ) (n : ℕ) → v ≡ rebuilding (h .shape) (h .curve) (h .step) (middlesOf h plan) qs vs → n ≡ boundOf h plan .figure
     → record { refused = detailsOf r; plan = plan; figure = n; coefficients = qs; values = v } ≡ finished (detailsOf r) h plan qs vs
 unfolding finished
 finished-yes r y h plan qs vs v n a b = rw y (λ i. record { refused = refusal 0 0 0; plan = plan; figure = b i; coefficients = qs; values = a i })
@@ -91,9 +103,9 @@ finished-yes r y h plan qs vs v n a b = rw y (λ i. record { refused = refusal 0
 module _ (h : Header) (r : wellFormed h ≡ true) (plan : Plan) (e : firstOver (planesOf h) (loads plan) ≡ layersMost)
     (qs vs : List ℤ) (q : length qs ≡ points (h .shape)) (v : length vs ≡ points (h .shape)) where
   pub finished-is : finished (refusal 0 0 0) h plan qs vs
-      ≡ record { refused = refusal 0 0 0; plan = plan; figure = figureOf h (loads plan); coefficients = qs; values = rebuilt (layering (h .shape) (h .curve)) (h .step) qs }
+      ≡ record { refused = refusal 0 0 0; plan = plan; figure = figureOf h (loads plan); coefficients = qs; values = valuesWith h plan qs }
   unfolding finished
-  finished-is i = record { refused = refusal 0 0 0; plan = plan; figure = bound-right h plan r e i; coefficients = qs; values = rebuilt-is h r qs vs q v i }
+  finished-is i = record { refused = refusal 0 0 0; plan = plan; figure = bound-right h plan r e i; coefficients = qs; values = values-are h r plan qs vs q v i }
 
 -- ---- loaded planes, finished, are the reading
 module _ (h : Header) (r : wellFormed h ≡ true) (long : ℕ) (bs : List ℕ) (here : long ≤ length bs) (qs vs : List ℤ) where

@@ -10,7 +10,6 @@ use borrow.Author.Tests.{lt-ltb, le-ltb}
 use lib.IntN.{ℤ}
 use lib.ListN.{length, set, length-set, List·getD-eq-default}
 use lib.Seq.{getD-set-same, getD-set-other}
-use Rattle.layers.specs.Layering.{layering, rebuilt}
 use Rattle.sheet.specs.Limits.{layersMost}
 use Rattle.sheet.specs.Sheet.{layers}
 use Rattle.header.specs.declared.Header.{Header}
@@ -30,7 +29,7 @@ use Rattle.loading.specs.InBytes.{fine, coefsWith}
 use Rattle.loading.specs.Workings.Calls.{Loading, asLoading, there, adding}
 use Rattle.loading.proofs.LayerPlanes.{whole-at}
 use Rattle.loading.proofs.Loads.{plus-long}
-use Rattle.card.specs.Reading.{Reading, goodLengths}
+use Rattle.card.specs.Reading.{Reading, valuesWith, goodLengths}
 use Rattle.card.specs.Workings.{finished}
 use Rattle.card.specs.Reading as R
 use Rattle.card.specs.Refining.{refineLayer}
@@ -44,7 +43,7 @@ refinedAs h long bs plan k p qs =
       plan = withPlane plan k;
       figure = figureOf h (loads (withPlane plan k));
       coefficients = coefsWith h long bs k p qs;
-      values = rebuilt (layering (h .shape) (h .curve)) (h .step) (coefsWith h long bs k p qs);
+      values = valuesWith h (withPlane plan k) (coefsWith h long bs k p qs);
     }
 
 -- ---- one more plane of a layer that has one

@@ -1,4 +1,4 @@
--- What a reading that is not refused gives: a value for each point of a sheet, and small, since 23 digits hold every coefficient that is read; and a figure that is small too.
+-- What a reading that is not refused gives: a value for each point of a sheet, and small, since 23 digits hold every coefficient that is read and every middle; and a figure that is small too.
 use mathlib.Core.Bool.{true}
 use mathlib.Core.List.{List}
 use mathlib.Core.Path.{_≡_}
@@ -10,26 +10,34 @@ use lib.IntN.{ℤ}
 use lib.ListN.{length}
 use Rattle.integers.specs.Distance.{Within}
 use Rattle.integers.proofs.Bools.{by}
-use Rattle.integers.proofs.Diff.{#}
+use Rattle.integers.proofs.Diff.{#, _⊞_}
 use Rattle.integers.proofs.Near.{within-by}
-use Rattle.digits.proofs.Range.{range-23}
+use Rattle.digits.specs.Digits.{middle}
+use Rattle.digits.proofs.Range.{holds-up, range-23}
+use Rattle.digits.proofs.Losses.{middle-held}
 use Rattle.sheet.specs.declared.Shape.{Shape}
+use Rattle.sheet.specs.declared.Curve.the-variants.{Linear}
 use Rattle.sheet.specs.Lists.{at}
 use Rattle.sheet.specs.Sheet.{accepted, points}
-use Rattle.layers.specs.Layering.{layering}
+use Rattle.layers.specs.Layering.{layering, ownLayer, counted}
+use Rattle.layers.proofs.Counted.{counted-own}
 use Rattle.layers.proofs.Law.{length-rebuilt}
+use Rattle.layers.proofs.Members.{own-below}
 use Rattle.layers.proofs.Range.{readMost, valueLimit, rebuilt-limit}
+use Rattle.layers.proofs.SheetLaw.{sheet-proper}
 use Rattle.header.specs.declared.Header.{Header}
 use Rattle.header.specs.declared.Plan.{Plan}
-use Rattle.header.specs.Plan.{loads}
+use Rattle.header.specs.Header.{placesMost}
+use Rattle.header.specs.Plan.{loads, missing}
 use Rattle.header.specs.Opening.{opening}
 use Rattle.header.proofs.Opens.{opened-right}
-use Rattle.header.proofs.WellFormed.{WellFormed, right-yes}
+use Rattle.header.proofs.WellFormed.{WellFormed, right-yes, few-planes}
 use Rattle.order.specs.CardOrder.{slots, wholeOf}
 use Rattle.figure.proofs.Figures.{figure-small}
 use Rattle.loading.specs.InBytes.{firstBad, coefsRead}
+use Rattle.loading.proofs.Loads.{coefs-long}
 use Rattle.loading.proofs.ReadWords.{read-held}
-use Rattle.card.specs.Reading.{Reading, firstRefusal, readOpened, afterOpening, reading, showing}
+use Rattle.card.specs.Reading.{Reading, valuesWith, firstRefusal, readOpened, afterOpening, reading, showing}
 use Rattle.card.proofs.ReadCall.{readAs}
 
 -- of a sheet of this shape: a value for each point, none of more than 15 decimal digits; past the last one stands 0
@@ -40,15 +48,28 @@ pub record Answered (sh : Shape) (r : Reading) : Type 0 where
   pub figure : r .figure ≤ 2 ^ 57
 
 module _ (bs : List ℕ) (h : Header) (long : ℕ) (r : WellFormed h) (plan : Plan) where
-  read-small : (p : ℕ) → p < points (h .shape) → Within readMost (at (coefsRead h long bs (loads plan)) p)
-  read-small p hp = within-by (# (at (coefsRead h long bs (loads plan)) p)) (omega (arith, range-23, read-held h long bs (loads plan) r p hp))
+  abbrev qs : List ℤ
+  qs = coefsRead h long bs (loads plan)
+
+  abbrev counts : List ℤ
+  counts = counted (h .shape) (λ k. middle (missing h (loads plan) k)) qs
+
+  -- a coefficient as it counts is two numbers of 23 digits
+  read-small : (p : ℕ) → p < points (h .shape) → Within readMost (at counts p)
+  read-small p hp =
+      let k = ownLayer (h .shape) p in
+      let d = missing h (loads plan) k in
+      let few : d ≤ placesMost = omega (arith, few-planes r k (own-below (sheet-proper (h .shape) (r .shape) Linear) p hp)) in
+      rw (counted-own (h .shape) (r .shape) qs (coefs-long h long bs (loads plan)) _ p hp)
+      (within-by (# (at qs p) ⊞ # (middle d)) (omega (arith, range-23, read-held h long bs (loads plan) r p hp, holds-up d placesMost (middle d) few (middle-held d))))
 
   read-answer : Answered (h .shape) (readAs h long bs plan)
+  unfolding valuesWith
   read-answer =
       record {
         shape = r .shape;
-        long = length-rebuilt (layering (h .shape) (h .curve)) (h .step) (coefsRead h long bs (loads plan));
-        small = rebuilt-limit (h .shape) (r .shape) (h .curve) (h .step) (r .step) (coefsRead h long bs (loads plan)) read-small;
+        long = length-rebuilt (layering (h .shape) (h .curve)) (h .step) counts;
+        small = rebuilt-limit (h .shape) (r .shape) (h .curve) (h .step) (r .step) counts read-small;
         figure = figure-small r (loads plan);
       }
 

@@ -4,14 +4,15 @@ use mathlib.Core.List.{List}
 use Prim.Native.Nat.{ℕ}
 use lib.Dec.{ltb, eqb}
 use lib.IntN.{ℤ}
+use Rattle.digits.specs.Digits.{middle}
 use Rattle.sheet.specs.Limits.{layersMost}
-use Rattle.layers.specs.Layering.{layering, rebuilt}
+use Rattle.layers.specs.Layering.{layering, rebuilt, counted}
 use Rattle.layers.specs.Samples.{full}
 use Rattle.header.specs.declared.Header.{Header}
 use Rattle.header.specs.declared.Plan.{Plan}
 use Rattle.header.specs.declared.Details.{Details}
 use Rattle.header.specs.Refusals.{refusal, detailsOf}
-use Rattle.header.specs.Plan.{noPlan, loads, firstOver}
+use Rattle.header.specs.Plan.{noPlan, loads, missing, firstOver}
 use Rattle.header.specs.Opening.{Opening, opening}
 use Rattle.order.specs.CardOrder.{slotLayer, slots, wholeOf}
 use Rattle.figure.specs.Figure.{figureOf}
@@ -29,6 +30,11 @@ pub record Reading : Type 0 where
 -- refusal 9: a layer is asked for more planes than are whole, or a number past the last layer is not 0 (the first such place)
 abbrev pub planRefusal : ℕ → Details
 planRefusal over = cond (ltb over layersMost) (refusal 9 over 0) (refusal 0 0 0)
+
+-- the values of a reading with a plan, from its coefficients: the missing digits of a layer count as their middle. The coefficients themselves hold plain digits
+unfoldable pub valuesWith : Header → Plan → List ℤ → List ℤ
+valuesWith h plan qs =
+    rebuilt (layering (h .shape) (h .curve)) (h .step) (counted (h .shape) (λ k. middle (missing h (loads plan) k)) qs)
 
 module _ (qs vs : List ℤ) where
   abbrev pub notRead : Details → Reading
@@ -48,7 +54,7 @@ module _ (qs vs : List ℤ) where
         plan = plan;
         figure = figureOf h (loads plan);
         coefficients = coefsRead h long bs (loads plan);
-        values = rebuilt (layering (h .shape) (h .curve)) (h .step) (coefsRead h long bs (loads plan));
+        values = valuesWith h plan (coefsRead h long bs (loads plan));
       })
 
   abbrev pub goodLengths : Header → Bool

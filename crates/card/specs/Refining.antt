@@ -5,7 +5,6 @@ use Prim.Native.Nat.{ℕ, suc, _-_}
 use lib.Dec.{ltb}
 use lib.IntN.{ℤ}
 use Rattle.sheet.specs.Sheet.{layers}
-use Rattle.layers.specs.Layering.{layering, rebuilt}
 use Rattle.header.specs.declared.Header.{Header}
 use Rattle.header.specs.declared.Plan.{Plan}
 use Rattle.header.specs.Refusals.{refusal}
@@ -16,7 +15,7 @@ use Rattle.figure.specs.Figure.{figureOf}
 use Rattle.order.specs.CardOrder.{wholeOf}
 use Rattle.packing.specs.Planes.{allHeld}
 use Rattle.loading.specs.InBytes.{fine, coefsWith}
-use Rattle.card.specs.Reading.{Reading}
+use Rattle.card.specs.Reading.{Reading, valuesWith}
 use Rattle.card.specs.Reading as R
 
 module _ (qs vs : List ℤ) where
@@ -29,7 +28,7 @@ module _ (qs vs : List ℤ) where
         plan = withPlane plan k;
         figure = figureOf h (loads (withPlane plan k));
         coefficients = coefsWith h long bs k p qs;
-        values = rebuilt (layering (h .shape) (h .curve)) (h .step) (coefsWith h long bs k p qs);
+        values = valuesWith h (withPlane plan k) (coefsWith h long bs k p qs);
       })
       (R.notRead qs vs (refusal 8 k 0))
 

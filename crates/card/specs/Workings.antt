@@ -1,13 +1,18 @@
 -- What follows the planes, as the code does it.
 use mathlib.Core.List.{List}
+use Prim.Native.Nat.{min}
 use lib.IntN.{ℤ}
+use Rattle.digits.specs.Digits.{middle}
+use Rattle.digits.specs.Workings.{digitsMost}
+use Rattle.sheet.specs.Limits.{layersMost}
+use Rattle.sheet.specs.Lists.{tabulate}
 use Rattle.layers.specs.Workings.Calls.{rebuilding}
 use Rattle.header.specs.declared.Header.{Header}
 use Rattle.header.specs.declared.Plan.{Plan}
 use Rattle.header.specs.declared.Details.{Details}
 use Rattle.header.specs.declared.Refusal.{Refusal}
 use Rattle.header.specs.Refusals.{refusal}
-use Rattle.header.specs.Plan.{noPlan}
+use Rattle.header.specs.Plan.{noPlan, loads, missing}
 use Rattle.figure.specs.Workings.{boundOf}
 use Rattle.card.specs.declared.Reached.{Reached}
 use Rattle.card.specs.Reading.{Reading, unless}
@@ -15,6 +20,10 @@ use Rattle.card.specs.Reading.{Reading, unless}
 -- the code's answer where nothing is reached
 abbrev pub notReached : Refusal → Reached
 notReached refusal = record { refusal = refusal; plan = noPlan; figure = 0 }
+
+-- what the missing digits of each layer count as; no layer of a card has more digits than `digitsMost`
+unfoldable pub middlesOf : Header → Plan → List ℤ
+middlesOf h plan = tabulate layersMost (λ k. middle (min (missing h (loads plan) k) digitsMost))
 
 -- what follows the planes as the code does it: values and figure, unless the planes were refused
 unfoldable pub finished : Details → Header → Plan → List ℤ → List ℤ → Reading
@@ -25,5 +34,5 @@ finished d h plan qs vs =
       plan = plan;
       figure = boundOf h plan .figure;
       coefficients = qs;
-      values = rebuilding (h .shape) (h .curve) (h .step) qs vs;
+      values = rebuilding (h .shape) (h .curve) (h .step) (middlesOf h plan) qs vs;
     })

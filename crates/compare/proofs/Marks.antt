@@ -1,12 +1,12 @@
 -- Marks stand for their test: as many points are marked as pass it, and the first that is marked is the first that passes.
 use mathlib.Core.Bool.{Bool, true, false, cond}
 use mathlib.Core.Path.{_≡_, refl, sym, ap, _∙_}
-use Prim.Native.Nat.{ℕ, zero, suc, _+_, _<_, _≤_}
+use Prim.Native.Nat.{ℕ, zero, suc, _<_}
 use native.Mathlib.Omega.{arith}
 use lib.ListN.{length}
 use Rattle.integers.proofs.Bools.{by}
 use Rattle.sheet.specs.Lists.{count, nth}
-use Rattle.sheet.proofs.Lists.{length-tabulate, getD-tabulate, count-yes, count-no, count-never, count-same, nth-count, nth-no, nth-same}
+use Rattle.sheet.proofs.Lists.{length-tabulate, getD-tabulate, count-never, count-same, nth-count, nth-no, nth-same}
 use Rattle.compare.specs.Comparing.{marks}
 use Rattle.compare.specs.Workings.{marked}
 
@@ -21,14 +21,6 @@ module _ (t : ℕ → Bool) where
   unfolding nth
   first-none zero none = refl
   first-none (suc n) none = nth-no t n 0 (none n (omega arith)) ∙ first-none n (λ q h. none q (omega arith))
-
--- a mark is 0 or 1, and counts
-module _ (t : ℕ → Bool) (p : ℕ) where
-  pub mark-most : cond (t p) 1 0 ≤ 1
-  mark-most = by (t p) (λ y. rw y (omega arith)) (λ y. rw y (omega arith))
-
-  pub count-on : count t p + cond (t p) 1 0 ≡ count t (suc p)
-  count-on = by (t p) (λ y. rw y (sym (count-yes t p y))) (λ y. rw y (omega (arith, count-no t p y)))
 
 -- ---- the marks of a test
 module _ (t : ℕ → Bool) (n : ℕ) where

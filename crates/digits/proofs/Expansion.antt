@@ -4,7 +4,7 @@ use mathlib.Core.List.{List, [], _∷_}
 use Prim.Native.Nat.{ℕ, zero, suc, _%_, _≤_, _<_}
 use native.Mathlib.Omega.{arith}
 use native.Mathlib.Nat as NatL
-use lib.IntN.{ℤ, pos, natAbs, _-ℤ_, _*ℤ_}
+use lib.IntN.{ℤ, pos, natAbs, _+ℤ_, _-ℤ_, _*ℤ_}
 use lib.ListN.{length, getD}
 use Rattle.integers.specs.Distance.{Near}
 use Rattle.integers.specs.Floor.{floorDiv}
@@ -12,8 +12,9 @@ use Rattle.integers.proofs.Diff.{#, lit, _⊖_, _⊡_}
 use Rattle.integers.proofs.Order.{eq-by}
 use Rattle.integers.proofs.Near.{parts-abs}
 use Rattle.integers.proofs.Floor.{floor-at}
-use Rattle.digits.specs.Digits.{value, evens, odds, lowest, higher, digitAt, digitsOf, loss}
-use Rattle.digits.proofs.DigitLists.{Binary, truncate}
+use Rattle.digits.specs.Digits.{value, Binary, lowest, higher, digitAt, digitsOf, middle, loss}
+use Rattle.digits.proofs.DigitLists.{truncate}
+use Rattle.digits.proofs.Weights.{evens, odds}
 use Rattle.digits.proofs.Range.{Holds, holds-cons, holds-uncons}
 use Rattle.digits.proofs.Value.{value-inj}
 use Rattle.digits.proofs.Losses.{drop-near}
@@ -60,10 +61,11 @@ pub digits-unique : (ds : List ℕ) (n : ℕ) (q : ℤ) → Binary ds → length
 digits-unique ds n q b l e h =
     value-inj ds (digitsOf n q) b (digits-binary n q) (l ∙ sym (digits-length n q)) (e ∙ sym (digits-value n q h))
 
--- with the d lowest digits missing
-pub digits-near : (n d : ℕ) (q : ℤ) → Holds n q → d ≤ n → Near (loss d) q (value (truncate d (digitsOf n q)))
+-- ---- with the d lowest digits missing
+-- what is kept of a number and the middle of what is missing are within the loss of it
+pub digits-near : (n d : ℕ) (q : ℤ) → Holds n q → d ≤ n → Near (loss d) q (value (truncate d (digitsOf n q)) +ℤ middle d)
 digits-near n d q h l =
-    subst (λ (z : ℤ). Near (loss d) z (value (truncate d (digitsOf n q)))) (digits-value n q h)
+    subst (λ (z : ℤ). Near (loss d) z (value (truncate d (digitsOf n q)) +ℤ middle d)) (digits-value n q h)
     (drop-near d (digitsOf n q) (digits-binary n q) (omega (arith, digits-length n q)))
 
 -- ---- a digit by its place

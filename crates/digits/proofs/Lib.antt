@@ -1,7 +1,10 @@
+pub mod Weights
+pub mod Ends
 pub mod Range
 pub mod Value
 pub mod Places
 pub mod Losses
+pub mod Gaps
 pub mod Expansion
 pub mod Missing
 pub mod Offset

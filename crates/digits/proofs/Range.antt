@@ -2,37 +2,25 @@
 use mathlib.Core.Path.{_≡_, refl}
 use mathlib.Core.Bool.{true}
 use mathlib.Core.List.{List, [], _∷_}
-use Prim.Native.Nat.{ℕ, zero, suc, _+_, _*_, _-_, _≤_, _<_, _^_}
+use Prim.Native.Nat.{ℕ, zero, suc, _+_, _-_, _≤_, _<_}
 use native.Mathlib.Omega.{arith}
 use native.Mathlib.Nat as NatL
 use native.Mathlib.Numerals.{add-one}
-use lib.IntN.{ℤ, pos, negsuc, negℤ, _-ℤ_, _*ℤ_, natAbs}
+use lib.IntN.{ℤ, pos, negsuc, _-ℤ_, _*ℤ_, natAbs}
 use lib.Signed.{leZ}
 use lib.ListN.{length}
 use mir.Syntax.{w32}
 use mir.Val.{SFits}
 use Rattle.integers.specs.Distance.{up, down}
-use Rattle.integers.proofs.Diff.{#, lit, _⊖_, ⊟, _⊡_}
+use Rattle.integers.proofs.Diff.{#, lit, via, _⊖_, ⊟, _⊡_}
 use Rattle.integers.proofs.Order.{le-by}
 use Rattle.integers.proofs.Machine.{le-test, sfits-at}
-use Rattle.digits.specs.Digits.{value, evens, odds, holds}
-use Rattle.digits.proofs.DigitLists.{Binary}
+use Rattle.digits.specs.Digits.{value, Binary, low, high, holds}
+use Rattle.digits.proofs.Weights.{evens, odds}
+use Rattle.digits.proofs.Ends.{high-is, low-is}
 use Rattle.integers.proofs.Bools.{and-left, and-right, and-both, is-true}
 
--- ---- the weights of the even and of the odd places
-pub weights : (n : ℕ) → evens n + odds n + 1 ≡ 2 ^ n
-unfolding evens odds
-weights zero = refl
-weights (suc n) = omega (arith, weights n)
-
-pub evens-next : (n : ℕ) → evens (n + 1) ≡ 1 + 2 * odds n
-unfolding evens odds
-evens-next n = rw (add-one n)
-
-pub odds-next : (n : ℕ) → odds (n + 1) ≡ 2 * evens n
-unfolding evens odds
-odds-next n = rw (add-one n)
-
+-- ---- at the counts in use
 pub range-23 : (evens 23 ≡ 5592405) × (odds 23 ≡ 2796202)
 unfolding evens odds
 range-23 = (refl, refl)
@@ -49,16 +37,16 @@ pub record Holds (n : ℕ) (q : ℤ) : Type 0 where
 pub holds-yes : (n : ℕ) (q : ℤ) → holds n q ≡ true → Holds n q
 unfolding holds
 holds-yes n q e =
-    let l = le-test (⊟ (lit (odds n))) (# q) (and-left (leZ (negℤ (pos (odds n))) q) (leZ q (pos (evens n))) e) in
-    let h = le-test (# q) (lit (evens n)) (and-right (leZ (negℤ (pos (odds n))) q) (leZ q (pos (evens n))) e) in
+    let l = le-test (via (low-is n) (⊟ (lit (odds n)))) (# q) (and-left (leZ (low n) q) (leZ q (high n)) e) in
+    let h = le-test (# q) (via (high-is n) (lit (evens n))) (and-right (leZ (low n) q) (leZ q (high n)) e) in
     omega arith
 
 pub holds-by : (n : ℕ) (q : ℤ) → Holds n q → holds n q ≡ true
 unfolding holds
 holds-by n q h =
-    and-both (leZ (negℤ (pos (odds n))) q) (leZ q (pos (evens n)))
-    (is-true _ (le-by (⊟ (lit (odds n))) (# q) (omega arith) .le))
-    (is-true _ (le-by (# q) (lit (evens n)) (omega arith) .le))
+    and-both (leZ (low n) q) (leZ q (high n))
+    (is-true _ (le-by (via (low-is n) (⊟ (lit (odds n)))) (# q) (omega arith) .le))
+    (is-true _ (le-by (# q) (via (high-is n) (lit (evens n))) (omega arith) .le))
 
 -- a digit x below the number v
 pub holds-cons : (n x : ℕ) (v : ℤ) → x < 2 → Holds n v → Holds (suc n) (pos x -ℤ pos 2 *ℤ v)

@@ -73,10 +73,29 @@ pub fn digits_needed(q: i32) -> u64
     n
 }
 
-// What is lost at most where the d lowest digits are missing; no i32 has more than 33 digits, so no more are.
+// Of d digits, those that can be missing: no i32 has more than 33.
+fn clamped(d: u64) -> u64
+    ensures { λ r. ⌜ r ≡ min d digitsMost ⌝ }
+{
+    if d < MOST_DIGITS { d } else { MOST_DIGITS }
+}
+
+// What is lost at most where the d lowest digits are missing and their middle is counted: half of a power.
 pub fn loss(d: u64) -> u64
     ensures { λ r. ⌜ r ≡ D.loss (min d digitsMost) ⌝ }
 {
-    let n = if d < MOST_DIGITS { d } else { MOST_DIGITS };
-    (2 << n) / 3
+    let n = clamped(d);
+    (1 << n) / 2
+}
+
+// What d missing digits count as, the middle of what they can be: their largest less the loss; 0 where none are missing, as of most layers.
+pub fn middle(d: u64) -> i32
+    ensures { λ r. ⌜ r ≡ D.middle (min d digitsMost) ⌝ }
+{
+    if d == 0 {
+        return 0;
+    }
+    let n = clamped(d);
+    let largest: u64 = ((1 << (n + n % 2)) - 1) / 3;
+    (largest as i64 - loss(d) as i64) as i32
 }

@@ -1,27 +1,22 @@
 -- The pieces that are printed, in order, are the text of what is shown: the lines before the values, and then the rows.
 use mathlib.Core.Bool.{true, false}
 use mathlib.Core.List.{List, _++_, append-assoc, append-nil}
-use mathlib.Core.Path.{_≡_, ap₂, sym, _∙_}
+use mathlib.Core.Path.{_≡_, ap, ap₂, sym, _∙_}
 use Prim.Native.Nat.{ℕ, _+_, _*_, _-_, _<_}
 use native.Mathlib.Nat.{zero-add}
 use native.Mathlib.Omega.{arith}
-use borrow.Author.Tests.{le-ltb, eqb-true}
-use lib.Dec.{ltb, eqb}
+use borrow.Author.Tests.{le-ltb, eqb-true, eqb-false}
+use lib.Dec.{eqb}
 use lib.IntN.{ℤ, pos}
 use lib.ListN.{length, length-replicate}
 use Rattle.integers.proofs.Bools.{by}
 use Rattle.sheet.specs.Sheet.{points}
-use Rattle.layers.specs.Layering.{layering}
-use Rattle.layers.proofs.Law.{length-rebuilt}
 use Rattle.text.specs.Line.{lineText}
-use Rattle.header.specs.declared.Header.{Header}
 use Rattle.header.specs.Header.{ascii}
-use Rattle.header.specs.Plan.{loads}
 use Rattle.header.specs.Opening.{opening}
-use Rattle.order.specs.CardOrder.{slots, wholeOf}
-use Rattle.loading.specs.InBytes.{firstBad, coefsRead}
-use Rattle.card.specs.Reading.{showing, readOpened, firstRefusal}
-use Rattle.card.proofs.ReadCall.{good-lengths, checked-passes}
+use Rattle.card.specs.Reading.{Reading, showing}
+use Rattle.card.proofs.Bare.{showing-bare}
+use Rattle.card.proofs.Values.{showing-answered}
 use Rattle.display.specs.declared.Shown.{Shown}
 use Rattle.display.specs.Shown.{loadedText, rowsText, textOf, room, seen, shownOf, valuesOf, shownText}
 use Rattle.display.proofs.Order.{inOrder, order-split, order-same}
@@ -54,31 +49,12 @@ module _ (s : Shown) (vs : List ℤ) where
       unfolding textOf
       sheet-pieces = rw e (order-split (pieceAt s vs) sheetLines (length vs) 0 ∙ ap₂ (λ (a b : List ℕ). a ++ b) lines-pieces values-pieces)
 
--- ---- what showing leaves in the slice of values is as long as the slice
-module _ (qs vs : List ℤ) (bs : List ℕ) where
-  opened-long : (h : Header) (long : ℕ) → length (readOpened qs vs bs h long (wholeOf bs h long) .values) ≡ length vs
-  unfolding readOpened
-  opened-long h long =
-      let whole = wholeOf bs h long in
-      let plan = loads whole in
-      by (eqb (firstRefusal qs vs h whole whole .number) 0)
-      (λ y.
-      by (ltb (firstBad h long bs plan) (slots h))
-      (λ b. rw (y, b))
-      (λ b.
-      let full = good-lengths qs vs h (checked-passes qs vs h whole whole (eqb-true _ _ y) .0) in
-      rw (y, b) (length-rebuilt (layering (h .shape) (h .curve)) (h .step) (coefsRead h long bs plan) ∙ sym (full .1))))
-      (λ n. rw n)
-
-  showing-long : length (showing qs vs bs .values) ≡ length vs
-  unfolding showing
-  showing-long =
-      by (eqb (opening bs .refused .number) 0)
-      (λ t. rw t (opened-long (opening bs .header) (opening bs .long)))
-      (λ t. rw t)
-
+-- ---- showing leaves a value for each point, whether it is refused or not
 pub values-long : (bs : List ℕ) → length (valuesOf bs) ≡ points (opening bs .header .shape)
-values-long bs = showing-long (room bs) (room bs) bs ∙ length-replicate (points (opening bs .header .shape)) (pos 0)
+values-long bs =
+    by (eqb (seen bs .refused .number) 0)
+    (λ y. showing-answered (room bs) (room bs) bs (eqb-true _ _ y) .long)
+    (λ n. ap (λ (r : Reading). length (r .values)) (sym (showing-bare (room bs) (room bs) bs (eqb-false _ _ n))) ∙ length-replicate (points (opening bs .header .shape)) (pos 0))
 
 -- ---- a card's bytes: a card that is shown was opened, so its sheet has columns
 module _ (bs : List ℕ) where

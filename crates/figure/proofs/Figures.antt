@@ -1,6 +1,6 @@
 -- The figure of a plan: the step and what stands of the losses. A full plan loses nothing, and the limits bound what stands whatever a plan loads.
 use mathlib.Core.Path.{_≡_}
-use Prim.Native.Nat.{ℕ, _+_, _-_, _*_, _^_, _<_, _≤_}
+use Prim.Native.Nat.{ℕ, _+_, _*_, _^_, _<_, _≤_}
 use native.Mathlib.Nat.{le-refl, le-trans, mul-le-mul, zero-mul}
 use native.Mathlib.Omega.{arith}
 use Rattle.integers.specs.Floor.{ceilDiv}
@@ -13,6 +13,7 @@ use Rattle.layers.specs.Carry.{carried, standing}
 use Rattle.layers.proofs.Range.{limit, limit-all}
 use Rattle.header.specs.declared.Header.{Header}
 use Rattle.header.specs.Header.{placesMost, planesOf}
+use Rattle.header.specs.Plan.{missing}
 use Rattle.figure.specs.Figure.{ownLoss, figureOf}
 use Rattle.header.proofs.WellFormed.{WellFormed, counts-few, layers-few}
 use Rattle.figure.proofs.Limits.{lossMost, loss-most, standing-none, standing-limit}
@@ -25,7 +26,7 @@ module _ (h : Header) where
       omega (
         arith,
         standing-none (h .shape) (h .curve) (ownLoss h plan) (layers (h .shape))
-            (λ j l. let e : planesOf h j - plan j ≡ 0 = omega (arith, full j l) in rw (e, loss-none) (zero-mul (width (h .step)))),
+            (λ j l. let e : missing h plan j ≡ 0 = omega (arith, full j l) in rw (e, loss-none) (zero-mul (width (h .step)))),
       )
 
   pub figure-all : figureOf h (planesOf h) ≡ h .step
@@ -49,11 +50,11 @@ own-few d e few small = mul-le-mul (loss-most d few) wide
     wide = unfold width in (omega arith)
 
 module _ {h : Header} (r : WellFormed h) (plan : ℕ → ℕ) where
-  missing-few : (k : ℕ) → k < layersMost → planesOf h k - plan k ≤ placesMost
+  missing-few : (k : ℕ) → k < layersMost → missing h plan k ≤ placesMost
   missing-few k l = omega (arith, counts-few r k l)
 
   pub own-most : (k : ℕ) → k < layersMost → ownLoss h plan k ≤ ownMost
-  own-most k l = own-few (planesOf h k - plan k) (h .step) (missing-few k l) (r .step)
+  own-most k l = own-few (missing h plan k) (h .step) (missing-few k l) (r .step)
 
   -- what stands after any layer
   pub standing-most : (k : ℕ) → k ≤ layers (h .shape) → standing (h .shape) (h .curve) (ownLoss h plan) k ≤ standingMost

@@ -1,6 +1,6 @@
 -- The figure's limits: a layer loses no more where fewer digits are missing, and what stands after k layers rises by a fixed recursion, which stays far below 2 ^ 60.
 use mathlib.Core.Path.{_≡_, refl, _∙_}
-use Prim.Native.Nat.{ℕ, zero, suc, _+_, _*_, _/_, _^_, _<_, _≤_}
+use Prim.Native.Nat.{ℕ, zero, suc, _+_, _*_, _-_, _^_, _<_, _≤_}
 use native.Mathlib.Nat.{le-refl}
 use native.Mathlib.Omega.{arith}
 use lib.Dec.{eqb}
@@ -21,7 +21,7 @@ use Rattle.header.specs.Header.{placesMost}
 
 -- ---- the loss of all the planes of a layer
 abbrev pub lossMost : ℕ
-lossMost = 2 ^ (placesMost + 1) / 3
+lossMost = 2 ^ (placesMost - 1)
 
 pub loss-most : (d : ℕ) → d ≤ placesMost → loss d ≤ lossMost
 unfolding loss

@@ -1,14 +1,18 @@
--- Demand 2, its second sentence: what is read with all planes are coefficients whose counts and planes are the card's own, and writing the values rebuilt from them makes these coefficients again; so the header is the same, and so are the bytes behind it.
+-- Demand 2, its second sentence: what is read with all planes are coefficients whose counts and planes are the card's own, with no digit missing, and writing the values rebuilt from them makes these coefficients again; so the header is the same, and so are the bytes behind it.
 use mathlib.Core.List.{List, _++_}
 use mathlib.Core.Path.{_≡_, sym, ap, _∙_, subst}
-use Prim.Native.Nat.{ℕ}
-use lib.IntN.{ℤ}
+use Prim.Native.Nat.{ℕ, _<_}
+use native.Mathlib.Omega.{arith}
+use lib.IntN.{ℤ, pos}
 use lib.ListN.{length, drop}
 use Rattle.integers.specs.Distance.{Within}
+use Rattle.digits.specs.Digits.{middle}
+use Rattle.digits.proofs.Losses.{middle-none}
 use Rattle.sheet.specs.Limits.{sampleMost}
 use Rattle.sheet.specs.Lists.{at}
-use Rattle.sheet.specs.Sheet.{points}
+use Rattle.sheet.specs.Sheet.{points, layers}
 use Rattle.layers.specs.Layering.{Layering, layering, rebuilt, written, coefs}
+use Rattle.layers.proofs.Counted.{counted-none}
 use Rattle.layers.proofs.Proper.{Proper}
 use Rattle.layers.specs.Workings.Loops.{Samples}
 use Rattle.layers.proofs.Law.{length-rebuilt, write-back, coefs-back}
@@ -16,15 +20,16 @@ use Rattle.layers.proofs.SheetLaw.{sheet-proper}
 use Rattle.header.specs.declared.Header.{Header}
 use Rattle.header.specs.declared.Plan.{Plan}
 use Rattle.header.specs.Header.{planesOf, headerText}
+use Rattle.header.specs.Plan.{missing}
 use Rattle.header.specs.Opening.{opening}
 use Rattle.header.specs.Refusals.{refusal}
 use Rattle.header.proofs.Opens.{Opens}
 use Rattle.header.proofs.WellFormed.{WellFormed}
 use Rattle.packing.specs.Planes.{body, cardOf}
 use Rattle.loading.specs.InBytes.{coefsRead}
-use Rattle.card.specs.Reading.{Reading}
+use Rattle.figure.specs.Figure.{figureOf}
+use Rattle.card.specs.Reading.{Reading, valuesWith}
 use Rattle.loading.proofs.Loads.{coefs-long}
-use Rattle.card.proofs.ReadCall.{readAs}
 use Rattle.guarantee.specs.WrittenBack.{headerIn, readAll, Readable, Room, WritesBack, WrittenBack}
 use Rattle.guarantee.proofs.AllPlanes.{header-again, read-carries}
 use Rattle.guarantee.proofs.Bytes.{carried-body}
@@ -55,14 +60,26 @@ module _ (bs : List ℕ) (qs vs : List ℤ) (card : Readable bs qs vs) where
   passed : Passed h long bs plan qs vs
   passed = reading-passed qs vs bs plan (card .taken)
 
-  gives : readAll qs vs bs ≡ readAs h long bs plan
-  gives = passed-reads passed
-
   opens : Opens bs h long
   opens = opens-right bs (passed .opens)
 
   is-well-formed : WellFormed h
   is-well-formed = right-header bs (passed .opens)
+
+  -- no digit is missing, so the coefficients count as they are
+  none-missing : (k : ℕ) → k < layers (h .shape) → middle (missing h (planesOf h) k) ≡ pos 0
+  none-missing k hk = let none : missing h (planesOf h) k ≡ 0 = omega arith in ap middle none ∙ middle-none
+
+  values-are : valuesWith h plan coefficients ≡ values
+  unfolding valuesWith
+  values-are = ap (rebuilt sheet (h .step)) (counted-none (h .shape) (is-well-formed .shape) coefficients (coefs-long h long bs (planesOf h)) _ none-missing)
+
+  -- what reading gives
+  abbrev read : Reading
+  read = record { refused = refusal 0 0 0; plan = plan; figure = figureOf h (planesOf h); coefficients = coefficients; values = values }
+
+  gives : readAll qs vs bs ≡ read
+  gives = passed-reads passed ∙ (λ i. record { refused = refusal 0 0 0; plan = plan; figure = figureOf h (planesOf h); coefficients = coefficients; values = values-are i })
 
   -- the card of the coefficients read is the card
   card-again : cardOf (h .shape) (h .curve) (h .step) coefficients ≡ bs
@@ -92,7 +109,7 @@ module _ (bs : List ℕ) (qs vs : List ℤ) (card : Readable bs qs vs) where
       }
 
   -- and so the card
-  made : (qs′ vs′ : List ℤ) (out : List ℕ) → Room (points (h .shape)) qs′ vs′ out → WritesBack bs (readAs h long bs plan) qs′ vs′ out
+  made : (qs′ vs′ : List ℤ) (out : List ℕ) → Room (points (h .shape)) qs′ vs′ out → WritesBack bs read qs′ vs′ out
   made qs′ vs′ out room =
       let text : cardOf (h .shape) (h .curve) (h .step) (coefs sheet (h .step) values) ≡ bs =
       ap (cardOf (h .shape) (h .curve) (h .step)) coefficients-again ∙ card-again in

@@ -9,8 +9,8 @@ use lib.IntN.{pos, _+ℤ_, _*ℤ_}
 use lib.ListN.{length, getD}
 use lib.Seq.{ext-getD}
 use Rattle.integers.proofs.Bools.{cond-yes, cond-no}
-use Rattle.digits.specs.Digits.{value, weight, digitAt}
-use Rattle.digits.proofs.DigitLists.{Binary, truncate}
+use Rattle.digits.specs.Digits.{value, Binary, weight, digitAt}
+use Rattle.digits.proofs.DigitLists.{truncate}
 use Rattle.digits.proofs.Range.{Holds, range}
 use Rattle.digits.proofs.Value.{length-truncate}
 use Rattle.digits.proofs.Places.{truncate-none, truncate-step}

@@ -20,6 +20,7 @@ mod Written
 pub mod Again
 pub mod Compares
 pub mod Holds
+pub mod Middles
 pub mod Refined
 pub mod Refused
 pub mod Rolls

@@ -1,12 +1,12 @@
--- How far what is read is from what was written, where the planes loaded have the bits written. A coefficient has its own digits with 0 for the missing ones below, so it is near by the loss of those; and the error law of a sheet carries that to the values.
+-- How far what is read is from what was written, where the planes loaded have the bits written. A coefficient as it counts has its own digits above and the middle for the missing ones below, so it is near by the loss of those; and the error law of a sheet carries that to the values.
 use mathlib.Core.Bool.{true}
 use mathlib.Core.List.{List}
 use mathlib.Core.Path.{_≡_, refl, sym, _∙_, subst}
-use Prim.Native.Nat.{ℕ, _-_, _<_}
+use Prim.Native.Nat.{ℕ, _<_}
 use native.Mathlib.Omega.{arith}
-use lib.IntN.{ℤ}
+use lib.IntN.{ℤ, _+ℤ_}
 use Rattle.integers.specs.Distance.{Near}
-use Rattle.digits.specs.Digits.{digitsOf, loss}
+use Rattle.digits.specs.Digits.{digitsOf, middle, loss}
 use Rattle.digits.proofs.Range.{Holds}
 use Rattle.digits.proofs.Expansion.{digits-length, digits-at, digits-near}
 use Rattle.digits.proofs.Missing.{truncate-same}
@@ -14,19 +14,22 @@ use Rattle.sheet.specs.declared.Shape.{Shape}
 use Rattle.sheet.specs.declared.Curve.{Curve}
 use Rattle.sheet.specs.Lists.{at}
 use Rattle.sheet.specs.Sheet.{points, layers, inLayer, layerSize, pointOf, placeIn}
-use Rattle.layers.specs.Layering.{layering, coefs}
+use Rattle.layers.specs.Layering.{layering, counted, coefs}
 use Rattle.layers.specs.Workings.Loops.{Samples}
 use Rattle.sheet.proofs.Places.{place-in, point-in, point-on, point-place}
+use Rattle.layers.proofs.Counted.{counted-at}
 use Rattle.layers.proofs.Standing.{sheet-samples}
 use Rattle.header.specs.declared.Header.{Header}
 use Rattle.header.specs.declared.Plan.{Plan}
 use Rattle.header.specs.Header.{planesOf}
-use Rattle.header.specs.Plan.{loads}
+use Rattle.header.specs.Plan.{loads, missing}
 use Rattle.figure.specs.Figure.{figureOf}
 use Rattle.header.proofs.WellFormed.{layers-few}
 use Rattle.packing.specs.Planes.{headerFor}
 use Rattle.loading.specs.InBytes.{coefRead, coefsRead}
 use Rattle.packing.proofs.Cards.{counts-at}
+use Rattle.loading.proofs.Loads.{coefs-long}
+use Rattle.card.specs.Reading.{valuesWith}
 use Rattle.card.proofs.ReadCall.{readAs}
 use Rattle.guarantee.specs.Guarantee.{Gives}
 use Rattle.guarantee.proofs.Coefficients.{bits, length-bits, bit-at, coef-is, coef-at}
@@ -41,7 +44,7 @@ module _ {sh : Shape} {e : ℕ} {qs : List ℤ} (c : Fits sh e qs) (curve : Curv
 
   -- how many planes of layer k are missing
   abbrev lost : ℕ → ℕ
-  lost k = planesOf h k - loads plan k
+  lost k = missing h (loads plan) k
 
   -- the point at place i of layer k
   module _ (k i : ℕ) (hk : k < layers sh) (hi : i < layerSize sh k) where
@@ -53,7 +56,7 @@ module _ {sh : Shape} {e : ℕ} {qs : List ℤ} (c : Fits sh e qs) (curve : Curv
         subst (λ (m : ℕ). Holds m own) (sym (counts-at sh qs k (omega (arith, layers-few (fits-right c curve)))))
         (planes-hold sh qs k (c .digits) hk (pointOf sh k i) (point-on sh k i hi) (point-in sh k i hi))
 
-    coef-near : Near (loss (lost k)) own (coefRead h long bs (loads plan) k i)
+    coef-near : Near (loss (lost k)) own (coefRead h long bs (loads plan) k i +ℤ middle (lost k))
     coef-near =
         rw (
           coef-is h long bs k i (loads plan),
@@ -64,10 +67,11 @@ module _ {sh : Shape} {e : ℕ} {qs : List ℤ} (c : Fits sh e qs) (curve : Curv
         (digits-near (planesOf h k) (lost k) own held (omega arith))
 
   -- EVERY POINT of layer k
-  coefs-near : (k p : ℕ) → k < layers sh → p < points sh → inLayer sh k p ≡ true → Near (loss (lost k)) (at qs p) (at (coefsRead h long bs (loads plan)) p)
+  coefs-near : (k p : ℕ) → k < layers sh → p < points sh → inLayer sh k p ≡ true
+      → Near (loss (lost k)) (at qs p) (at (counted sh (λ j. middle (lost j)) (coefsRead h long bs (loads plan))) p)
   coefs-near k p hk hp m =
-      rw (coef-at h long bs (c .shape) k hk (loads plan) p hp m)
-      (subst (λ (j : ℕ). Near (loss (lost k)) (at qs j) (coefRead h long bs (loads plan) k (placeIn sh k p))) (point-place sh k p hp m)
+      rw (counted-at sh (c .shape) (coefsRead h long bs (loads plan)) (coefs-long h long bs (loads plan)) (λ j. middle (lost j)) k p hk hp m, coef-at h long bs (c .shape) k hk (loads plan) p hp m)
+      (subst (λ (j : ℕ). Near (loss (lost k)) (at qs j) (coefRead h long bs (loads plan) k (placeIn sh k p) +ℤ middle (lost k))) (point-place sh k p hp m)
       (coef-near k (placeIn sh k p) hk (place-in sh k p hp m)))
 
 -- THE VALUES are near the samples by the plan's figure
@@ -79,6 +83,6 @@ module _ {sh : Shape} {e : ℕ} {g : List ℤ} (x : Samples sh e g) (curve : Cur
   head = headerFor sh curve e q
 
   pub values-near : {long : ℕ} {bs : List ℕ} {plan : Plan} → Carries head long bs q plan → Gives sh g (figureOf head (loads plan)) (readAs head long bs plan)
-  unfolding figureOf
+  unfolding figureOf valuesWith
   values-near {plan = plan} carries =
-      record { taken = refl; near = sheet-samples sh (x .shape) curve e (λ k. loss (planesOf head k - loads plan k)) g _ (coefs-near (samples-fit x curve) curve carries) }
+      record { taken = refl; near = sheet-samples sh (x .shape) curve e (λ k. loss (missing head (loads plan) k)) g _ (coefs-near (samples-fit x curve) curve carries) }

@@ -2,12 +2,12 @@
 use mathlib.Core.Path.{refl}
 use lib.ListN.{take}
 use Rattle.integers.specs.Floor.{floorDiv, ceilDiv}
-use Rattle.digits.specs.Digits.{value, firstFrom, loss}
+use Rattle.digits.specs.Digits.{value, firstFrom, low, high, middle, loss}
 use Rattle.digits.proofs.Examples as E
 use Rattle.sheet.specs.Lists.{tabulate, count, nth, total}
 use Rattle.sheet.specs.Sheet.{spacing, inLayer, layerSize, placeIn, directions}
 use Rattle.layers.specs.Prediction.{linear, line, predictedAt, width, coefficientOf, rebuiltFrom}
-use Rattle.layers.specs.Layering.{lastIn, pointBy, layerBy, valuesBy, alongside, rebuilt, written, coefs}
+use Rattle.layers.specs.Layering.{lastIn, pointBy, layerBy, valuesBy, alongside, rebuilt, counted, written, coefs}
 use Rattle.layers.specs.Carry.{carried, narrow, standing}
 use Rattle.layers.proofs.Worked.{cubic-down, carried-twice, carried-narrow}
 use Rattle.header.specs.Header.{planeCells, cellsOf, asciiFrom}
@@ -16,6 +16,7 @@ use Rattle.order.specs.CardOrder.{cellsBefore, isWhole, whole}
 use Rattle.figure.specs.Figure.{figureOf}
 use Rattle.figure.specs.Bounding.{bounding}
 use Rattle.packing.specs.Planes.{allBelow}
+use Rattle.card.specs.Reading.{valuesWith}
 use Rattle.loading.specs.InBytes.{bitAt, clean, hasOne, fineBits, fine, badSlot, firstBad, coefRead, coefsRead}
 use Rattle.text.specs.Decimal.{digitsIn, decimal, signed}
 use Rattle.text.specs.Text.{rightAligned}
@@ -33,7 +34,8 @@ unfolding
     bestByLimit bestByCells bestOf better winsTie plansOf listsUpTo eachUpTo withUpTo
     marks apartAt agree nth
     pageText figureLine valueLines valueLine rightAligned signed decimal digitsIn
-    bounding figureOf standing carried narrow loss cellsOf total planeCells ceilDiv layerSize count inLayer directions spacing asciiFrom
+    valuesWith counted low high middle loss
+    bounding figureOf standing carried narrow cellsOf total planeCells ceilDiv layerSize count inLayer directions spacing asciiFrom
 bench =
     record {
       written = C.written;
@@ -44,8 +46,8 @@ bench =
       fineWritten = C.fine-written;
       apart = λ one two bytes five five′ long. C.compares one two bytes five five′ long card fineCard (openings .whole) (openings .fine) refl refl;
       agreed = λ one two bytes five five′ long. C.compares one two bytes five five′ long (take 160 card) fineCard (openings .at160) (openings .fine) refl refl;
-      at159 = λ qs vs five. C.shows qs vs five (take 159 card) (openings .at159);
-      at64 = λ qs vs five. C.shows qs vs five (take 64 card) (openings .at64);
+      at159 = λ qs vs five. C.shown qs vs five (take 159 card) (openings .at159);
+      at64 = λ qs vs five. C.shown qs vs five (take 64 card) (openings .at64);
       at63 = C.cut;
       limit10 = C.by-limit 10;
       limit9 = C.by-limit 9;

@@ -1,7 +1,7 @@
 -- What the calls come to on the bench card once their tests pass: those of lengths by the lengths that are given, those of the header by how the card opens.
 use mathlib.Core.Bool.{cond}
 use mathlib.Core.List.{List}
-use mathlib.Core.Path.{_≡_, refl, sym, ap, _∙_}
+use mathlib.Core.Path.{_≡_, refl, sym, _∙_}
 use Prim.Native.Nat.{ℕ, _≤_}
 use native.Mathlib.Omega.{arith}
 use borrow.Author.Tests.{eq-eqb, le-leb, le-ltb}
@@ -9,7 +9,7 @@ use lib.Dec.{ltb}
 use lib.IntN.{ℤ}
 use lib.ListN.{length, take}
 use Rattle.integers.specs.Floor.{floorDiv, ceilDiv}
-use Rattle.digits.specs.Digits.{evens, odds, lowest, higher, digitAt, holds, firstFrom}
+use Rattle.digits.specs.Digits.{low, high, lowest, higher, digitAt, holds, firstFrom}
 use Rattle.sheet.specs.declared.Curve.the-variants.{Linear, Cubic}
 use Rattle.sheet.specs.Lists.{tabulate, count, nth, total}
 use Rattle.sheet.specs.Sheet.{points, spacing, inLayer, layerSize, pointOf, directions}
@@ -47,7 +47,7 @@ use Rattle.guarantee.proofs.RowsOpened.{opened, fineHeader, openings}
 -- the counts 5,1,0 and the six planes
 card-is : cardOf shape Linear 1 coefficients ≡ card
 unfolding
-    cardOf headerText lineText decimal digitsIn joined asciiFrom countsFor planesFor enough allBelow firstFrom holds evens odds
+    cardOf headerText lineText decimal digitsIn joined asciiFrom countsFor planesFor enough allBelow firstFrom holds low high
     body downFrom atPlace planeBytes planeBit packed digitAt lowest higher floorDiv pointOf nth
     tabulate planeCells ceilDiv layerSize count inLayer directions spacing cellsOf total
 card-is = refl
@@ -59,7 +59,7 @@ fine-coefs = refl
 
 fine-is : cardOf shape Cubic 0 fineCoefficients ≡ fineCard
 unfolding
-    cardOf headerText lineText decimal digitsIn joined asciiFrom countsFor planesFor enough allBelow firstFrom holds evens odds
+    cardOf headerText lineText decimal digitsIn joined asciiFrom countsFor planesFor enough allBelow firstFrom holds low high
     body downFrom atPlace planeBytes planeBit packed digitAt lowest higher floorDiv pointOf nth
     tabulate planeCells ceilDiv layerSize count inLayer directions spacing cellsOf total
 fine-is = refl
@@ -109,10 +109,6 @@ module _ (qs vs : List ℤ) where
 
   pub shown : Five qs vs → (bs : List ℕ) → opening bs ≡ opened → showing qs vs bs ≡ wholeRead bs
   shown = shows-all benchHeader refl qs vs
-
-  pub shows : Five qs vs → (bs : List ℕ) → opening bs ≡ opened
-      → (showing qs vs bs .plan ≡ wholeRead bs .plan) × (showing qs vs bs .figure ≡ wholeRead bs .figure)
-  shows five bs o = (ap (λ (r : Reading). r .plan) (shown five bs o), ap (λ (r : Reading). r .figure) (shown five bs o))
 
   -- and rolled, on a page that has room for its six lines
   pub rolls : Five qs vs → (bs : List ℕ) → opening bs ≡ opened → wholeRead bs .refused .number ≡ 0 → (page : List ℕ) → 150 ≤ length page

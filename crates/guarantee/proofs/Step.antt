@@ -9,7 +9,6 @@ use lib.Dec.{ltb, eqb}
 use lib.IntN.{ℤ}
 use lib.ListN.{length}
 use Rattle.integers.proofs.Bools.{and-left, and-right, choice}
-use Rattle.layers.specs.Layering.{layering, rebuilt}
 use Rattle.sheet.specs.Limits.{layersMost}
 use Rattle.sheet.specs.Sheet.{layers}
 use Rattle.header.specs.declared.Header.{Header}
@@ -22,7 +21,7 @@ use Rattle.order.specs.CardOrder.{whole, wholePlan, wholeOf}
 use Rattle.header.proofs.WellFormed.{WellFormed, layers-few}
 use Rattle.packing.specs.Planes.{allHeld}
 use Rattle.loading.specs.InBytes.{fine, coefsRead}
-use Rattle.card.specs.Reading.{Reading}
+use Rattle.card.specs.Reading.{Reading, valuesWith}
 use Rattle.card.specs.Reading as R
 use Rattle.card.specs.Refining.{refineOpened}
 use Rattle.loading.proofs.LayerPlanes.{whole-at}
@@ -47,14 +46,14 @@ module _ (h : Header) (long : ℕ) (bs : List ℕ) where
     abbrev next : ℕ
     next = planesOf h k - suc (loads plan k)
 
-    abbrev rebuild : List ℤ → List ℤ
-    rebuild qs = rebuilt (layering (h .shape) (h .curve)) (h .step) qs
+    abbrev values : List ℤ
+    values = valuesWith h plan coefficients
 
     abbrev Kept : Reading → Type 0
     Kept new = Reached (keep new (readAs h long bs plan))
 
     -- a refused one leaves what was there
-    refused : (d : Details) → (d .number ≡ 0 → ⊥) → Kept (R.notRead coefficients (rebuild coefficients) d)
+    refused : (d : Details) → (d .number ≡ 0 → ⊥) → Kept (R.notRead coefficients values d)
     refused d n = rw (ne-eqb (d .number) 0 n) (record { plan = plan; places = places; taken = t; same = refl })
 
     -- one that is taken adds the digits that reading with one plane more reads
@@ -68,13 +67,13 @@ module _ (h : Header) (long : ℕ) (bs : List ℕ) where
         }
 
     -- test by test
-    pub step : Kept (refineOpened coefficients (rebuild coefficients) bs h long plan k)
+    pub step : Kept (refineOpened coefficients values bs h long plan k)
     unfolding refineOpened
     step =
         let limit = loads (wholePlan h (length bs - long)) in
         let there = ltb k (layers (h .shape)) in
         let further = ltb (loads plan k) (limit k) in
-        let check = R.firstRefusal coefficients (rebuild coefficients) h (wholeOf bs h long) plan in
+        let check = R.firstRefusal coefficients values h (wholeOf bs h long) plan in
         choice Kept (eqb (check .number) 0)
         (λ _. choice Kept (there && further)
         (λ e.

@@ -102,7 +102,7 @@ pub record Bench : Type 0 where
       ≡ record { refused = refusal 0 0 0; long = 256; coefficients = coefficients; values = values; output = card ++ drop 256 out }
   pub header : length text ≡ 64
   pub long : length card ≡ 256
-  -- pulled at byte 160: 12, 12 and 36 are three times the coefficients 4, 4 and 12
+  -- pulled at byte 160: of the anchors' digits two are missing, whose middle is -1, so 9, 9 and 33 are three times 4 - 1, 4 - 1 and 12 - 1
   pub at160 : (qs vs : List ℤ) → Five qs vs
       → showing qs vs (take 160 card)
       ≡ record {
@@ -110,14 +110,14 @@ pub record Bench : Type 0 where
         plan = threeLayers 3 0 0;
         figure = 10;
         coefficients = pos 4 ∷ pos 0 ∷ pos 4 ∷ pos 0 ∷ pos 12 ∷ [];
-        values = pos 12 ∷ pos 12 ∷ pos 12 ∷ pos 24 ∷ pos 36 ∷ [];
+        values = pos 9 ∷ pos 9 ∷ pos 9 ∷ pos 21 ∷ pos 33 ∷ [];
       }
   -- and rolled: what showing gives, and on the page the figure and a line for each value
   pub roll160 : (qs vs : List ℤ) (page : List ℕ) → Five qs vs → 150 ≤ length page
       → rolling qs vs page (take 160 card)
       ≡ record {
         shown = showing qs vs (take 160 card);
-        page = ascii "                      10\n   0   0              12\n   0   1              12\n   0   2              12\n   0   3              24\n   0   4              36\n" ++ drop 150 page;
+        page = ascii "                      10\n   0   0               9\n   0   1               9\n   0   2               9\n   0   3              21\n   0   4              33\n" ++ drop 150 page;
       }
   -- the finer card; compared with the bench card, it is apart in the last point
   pub fineWritten : (qs vs : List ℤ) (out : List ℕ) → Five qs vs → outputLeast ≤ length out
@@ -142,14 +142,30 @@ pub record Bench : Type 0 where
         number = 0;
         row = 0;
         column = 0;
-        first = lent (pos 4 ∷ pos 0 ∷ pos 4 ∷ pos 0 ∷ pos 12 ∷ []) (pos 12 ∷ pos 12 ∷ pos 12 ∷ pos 24 ∷ pos 36 ∷ []);
+        first = lent (pos 4 ∷ pos 0 ∷ pos 4 ∷ pos 0 ∷ pos 12 ∷ []) (pos 9 ∷ pos 9 ∷ pos 9 ∷ pos 21 ∷ pos 33 ∷ []);
         second = lent fineCoefficients fineSamples;
         apart = 0 ∷ 0 ∷ 0 ∷ 0 ∷ 0 ∷ [];
       }
-  -- at byte 159 the third plane is not whole
-  pub at159 : (qs vs : List ℤ) → Five qs vs → (showing qs vs (take 159 card) .plan ≡ threeLayers 2 0 0) × (showing qs vs (take 159 card) .figure ≡ 19)
-  -- at byte 64 there are no planes
-  pub at64 : (qs vs : List ℤ) → Five qs vs → (showing qs vs (take 64 card) .plan ≡ threeLayers 0 0 0) × (showing qs vs (take 64 card) .figure ≡ 67)
+  -- at byte 159 the third plane is not whole, and the middle of three missing digits is 1
+  pub at159 : (qs vs : List ℤ) → Five qs vs
+      → showing qs vs (take 159 card)
+      ≡ record {
+        refused = refusal 0 0 0;
+        plan = threeLayers 2 0 0;
+        figure = 16;
+        coefficients = pos 0 ∷ pos 0 ∷ pos 0 ∷ pos 0 ∷ pos 8 ∷ [];
+        values = pos 3 ∷ pos 3 ∷ pos 3 ∷ pos 15 ∷ pos 27 ∷ [];
+      }
+  -- at byte 64 there are no planes, and the middle of five missing digits is 5
+  pub at64 : (qs vs : List ℤ) → Five qs vs
+      → showing qs vs (take 64 card)
+      ≡ record {
+        refused = refusal 0 0 0;
+        plan = threeLayers 0 0 0;
+        figure = 52;
+        coefficients = replicate 5 (pos 0);
+        values = replicate 5 (pos 15);
+      }
   -- at byte 63 the header is cut
   pub at63 : (qs vs : List ℤ) → showing qs vs (take 63 card) ≡ R.notRead qs vs (refusal 5 0 0)
   -- planned by limit and by cells; 3,1,0 has the cells and the figure of 4,0,0
@@ -160,8 +176,8 @@ pub record Bench : Type 0 where
   pub limit0 : byLimit card 0 ≡ N.notPlanned (refusal 10 0 0)
   pub cells5 : byCells card 5 ≡ answer (threeLayers 5 0 0) 5 4
   -- the figures of the narrow card, with no planes and with one of each layer
-  pub narrowNone : bounding narrowText (ofEach 0) ≡ bounded 558
-  pub narrowOne : bounding narrowText (ofEach 1) ≡ bounded 278
+  pub narrowNone : bounding narrowText (ofEach 0) ≡ bounded 421
+  pub narrowOne : bounding narrowText (ofEach 1) ≡ bounded 211
   -- digits
   pub minusOne : Spelt (negsuc 0) (1 ∷ 1 ∷ [])
   pub two : Spelt (pos 2) (0 ∷ 1 ∷ 1 ∷ [])

@@ -14,7 +14,8 @@ use Rattle.layers.specs.Prediction.{width}
 use Rattle.layers.specs.Carry.{standing}
 use Rattle.header.specs.declared.Header.{Header}
 use Rattle.header.specs.Refusals.{refusal}
-use Rattle.header.specs.Header.{headerText, planesOf}
+use Rattle.header.specs.Header.{headerText}
+use Rattle.header.specs.Plan.{missing}
 use Rattle.header.specs.Opening.{opening}
 use Rattle.order.specs.CardOrder.{whole}
 use Rattle.packing.specs.Planes.{headerFor}
@@ -51,15 +52,12 @@ module _ (g : List ℤ) (sh : Shape) (curve : Curve) (e : ℕ) (qs vs : List ℤ
   abbrev pub headEnd : ℕ
   headEnd = length (headerText head)
 
-  -- the planes of layer k that are missing: those it has less the ones that are whole in n bytes
-  abbrev pub missing : ℕ → ℕ → ℕ
-  missing n k = planesOf head k - whole head (n - headEnd) k
-
   pub record ShownWithin (n : ℕ) (r : Reading) : Type 0 where
     -- showing it is not refused, and no value shown is further from its sample than the figure shown,
     pub gives : Gives sh g (r .figure) r
-    -- which is e and the carried losses of the planes that are missing (`standing`; since request 3 a narrow layer carries them unchanged)
-    pub figure : r .figure ≡ e + standing sh curve (λ k. loss (missing n k) * width e) (layers sh)
+    -- which is e and the carried losses of the planes that are missing, all but those whole in n bytes (since request 3 a narrow layer carries them unchanged,
+    -- `standing`; since request 5 missing digits count as their middle and lose 2^(d-1) at most, `loss`)
+    pub figure : r .figure ≡ e + standing sh curve (λ k. loss (missing head (whole head (n - headEnd)) k) * width e) (layers sh)
 
   -- what the planner answers to the limit E
   pub record PlannedWithin (limit : ℕ) (a : Planning) : Type 0 where

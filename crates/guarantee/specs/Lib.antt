@@ -4,5 +4,6 @@ pub mod Refinements
 pub mod Roll
 pub mod Guarantee
 pub mod Comparison
+pub mod Missing
 pub mod Groups
 pub mod Bench

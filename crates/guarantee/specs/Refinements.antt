@@ -23,7 +23,8 @@ unfoldable pub refineAll : List ℕ → List ℕ → Reading → Reading
 refineAll bs [] r = r
 refineAll bs (k ∷ ks) r = refineAll bs ks (refineOnce bs r k)
 
--- plan, figure, coefficients and values afterwards are those of one reading, whatever stood in its slices
+-- plan, figure, coefficients and values afterwards are those of one reading, whatever stood in its slices (since request 5 refining and reading both rebuild with
+-- the plan reached, so that what is still missing counts as its middle in both)
 pub record Refinements : Type 0 where
   pub same : (bs ks : List ℕ) (qs vs qs′ vs′ : List ℤ) → reading qs vs bs noPlan .refused .number ≡ 0
       → length qs′ ≡ length qs → length vs′ ≡ length vs

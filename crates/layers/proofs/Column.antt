@@ -5,8 +5,8 @@
 --     laid-points, laid-accepted, laid-samples     the numbers of a shape as it is laid
 --     laid-rebuilt, laid-written, laid-coefs       it comes to the same values and coefficients
 use mathlib.Core.Path.{_≡_, refl, sym, ap, subst, _∙_}
-use mathlib.Core.Bool.{Bool, true, false, _&&_}
-use mathlib.Core.List.{List}
+use mathlib.Core.Bool.{Bool, true, false, true≢false, _&&_}
+use mathlib.Core.List.{List, []}
 use Prim.Native.Nat.{ℕ, zero, suc, _+_, _*_, _/_, _%_, _^_, _<_}
 use native.Mathlib.Nat.{zero-mod, mod-one, div-one}
 use native.Mathlib.Omega.{arith}
@@ -18,17 +18,18 @@ use lib.Seq.{ext-getD}
 use borrow.Author.Tests.{eqb-true, eq-eqb}
 use Rattle.sheet.specs.declared.Shape.{Shape}
 use Rattle.sheet.specs.declared.Curve.{Curve}
+use Rattle.sheet.specs.declared.Curve.the-variants.{Linear}
 use Rattle.sheet.specs.declared.Direction.{Direction}
 use Rattle.sheet.specs.declared.Direction.the-variants.{Anchor, Across, Down, Between}
 use Rattle.sheet.specs.Sheet.{accepted, points, directions, layers, turn, member, direction, spacing, inLayer}
 use Rattle.sheet.specs.Workings.Shapes.{laid}
 use Rattle.layers.specs.Prediction.{line, predicted, predictedAt}
 use Rattle.layers.specs.Layering.{Layering, layering, pointBy, layerBy, valuesBy, alongside, blank, reads, writes, makes, rebuilt, written, coefs}
-use Rattle.layers.specs.Workings.Loops.{Samples}
+use Rattle.layers.specs.Workings.Loops.{Samples, columnLayer, laidLayer}
 use Rattle.integers.proofs.Bools.{by, and-no-left, and-no-right}
 use Rattle.sheet.proofs.Accepting.{accepted-yes, accepted-by, two-three}
 use Rattle.sheet.proofs.Earlier.{mult, odd, even-not-odd}
-use Rattle.sheet.proofs.Cover.{Turn, turn-direction, turn-spacing}
+use Rattle.sheet.proofs.Cover.{Turn, turn-direction, turn-spacing, View, anchors, turned as in-level, view}
 use Rattle.sheet.proofs.Lists.{length-tabulate, getD-tabulate, tabulate-same}
 
 -- ---- two layerings, layer by layer
@@ -134,6 +135,13 @@ module _ (depth n levels : ℕ) where
         let t = turned s (p / n) (p % n) ws in
         rw (div-one p, mod-one p, div-one (p / n), mod-one (p / n), is .0, is .1, is′ .0, is′ .1, t .0, t .1)
 
+    -- so they have the same points
+    same-points : {dir dir′ : Direction} (k k′ s : ℕ) → Is k dir s → Is k′ dir′ s → Turned dir dir′ → (p : ℕ) → Y .mem k p ≡ Y′ .mem k′ p
+    unfolding inLayer directions spacing
+    same-points k k′ s is is′ turned p =
+        let t = turned s (p / n) (p % n) [] in
+        rw (div-one p, mod-one p, div-one (p / n), mod-one (p / n), is .0, is .1, is′ .0, is′ .1) (t .0)
+
     none-down : (k s : ℕ) → 0 < s → Is k Down s → Empty Y k
     unfolding inLayer
     none-down k s some is p =
@@ -144,6 +152,38 @@ module _ (depth n levels : ℕ) where
     unfolding inLayer directions spacing
     none-across k s some is p =
         rw (mod-one p, is .0, is .1) (and-no-right (mult (2 * s) (p / 1 / n) && mult (2 * s) (p / 1 % n)) (odd s 0) (zero-not-odd s some))
+
+    -- the points of the row's layer k stand in the column's layer that `columnLayer` says
+    abbrev Lands : ℕ → Type 0
+    Lands k = (columnLayer (direction column k) k < layers column) × ((p : ℕ) → Y .mem k p ≡ true → Y′ .mem (columnLayer (direction column k) k) p ≡ true)
+
+    lands-by : {dir dir′ : Direction} (k s : ℕ) → Is k dir s → Is (columnLayer dir k) dir′ s → Turned dir dir′ → columnLayer dir k < layers row → Lands k
+    unfolding directions
+    lands-by k s is is′ alike few = rw (is .0) (few, λ p m. sym (same-points k _ s is is′ alike p) ∙ m)
+
+    lands-turn : (k m i j : ℕ) → k < layers row → Turn row k m i j → Lands k
+    unfolding directions
+    lands-turn k m zero j hk t =
+        let across : Is k Across (2 ^ j) = (turn-direction row t, turn-spacing row t) in
+        let down : Is (k + 1) Down (2 ^ j) = is-turn (k + 1) m 1 j (omega (arith, t .number)) (omega (arith, two-three row)) (t .levels) in
+        let all : directions row * levels ≡ directions row * (m + suc j) = ap (λ (l : ℕ). directions row * l) (t .levels) in
+        lands-by k (2 ^ j) across down across-turned (omega (arith, t .number, two-three row))
+    lands-turn k m (suc zero) j hk t =
+        let down : Is k Down (2 ^ j) = (turn-direction row t, turn-spacing row t) in
+        rw (down .0) (hk, λ p is-in. absurd (true≢false (sym is-in ∙ none-down k (2 ^ j) (pow-pos j) down p)))
+    lands-turn k m (suc (suc zero)) j hk t =
+        let between : Is k Between (2 ^ j) = (turn-direction row t, turn-spacing row t) in
+        lands-by k (2 ^ j) between between between-turned hk
+    lands-turn k m (suc (suc (suc i))) j hk t = absurd (let none : ⊥ = omega (arith, t .among, two-three row) in none)
+
+    lands : (k : ℕ) → k < layers row → Lands k
+    lands k hk = go (view row k hk)
+      where
+        go : View row k → Lands k
+        go (anchors e) =
+            let first : Is k Anchor (spacing row k) = rw e (refl, refl) in
+            lands-by k (spacing row k) first first anchors-turned hk
+        go (in-level m i j t) = lands-turn k m i j hk t
 
     module _ (g h : ℤ → ℕ → ℤ) where
       abbrev N : ℕ
@@ -188,24 +228,36 @@ module _ (depth n levels : ℕ) where
       ends = let all : suc (levels * N) ≡ layers row = omega arith in subst Met all (after levels 0 (omega arith))
 
 -- ---- a shape as it is laid: a row for a column, or itself
-laid-cases : (P : Shape → Shape → Type 0) → ((depth n levels : ℕ) → P (row depth n levels) (column depth n levels)) → ((sh : Shape) → P sh sh)
-    → (sh : Shape) → P (laid sh) sh
+laid-cases : (P : Shape → Shape → Type 0) → ((depth n levels : ℕ) → P (row depth n levels) (column depth n levels))
+    → ((sh : Shape) → eqb (sh .cols) 1 ≡ false → P sh sh) → (sh : Shape) → P (laid sh) sh
 laid-cases P turned stays sh =
     by (eqb (sh .cols) 1)
     (λ y.
     let one : 1 ≡ sh .cols = sym (eqb-true (sh .cols) 1 y) in
     let of : ℕ → Shape = λ c. record { depth = sh .depth; rows = sh .rows; cols = c; levels = sh .levels } in
     rw y (subst (λ (c : ℕ). P (row (sh .depth) (sh .rows) (sh .levels)) (of c)) one (turned (sh .depth) (sh .rows) (sh .levels))))
-    (λ f. rw f (stays sh))
+    (λ f. rw f (stays sh f))
 
 pub laid-points : (sh : Shape) → points (laid sh) ≡ points sh
-laid-points = laid-cases (λ a b. points a ≡ points b) (λ depth n levels. omega arith) (λ sh. refl)
+laid-points = laid-cases (λ a b. points a ≡ points b) (λ depth n levels. omega arith) (λ sh _. refl)
 
 pub laid-accepted : (sh : Shape) → accepted sh ≡ true → accepted (laid sh) ≡ true
 laid-accepted =
     laid-cases (λ a b. accepted b ≡ true → accepted a ≡ true)
     (λ depth n levels e. let ok = accepted-yes (column depth n levels) e in accepted-by (row depth n levels) (omega arith))
-    (λ sh e. e)
+    (λ sh _ e. e)
+
+pub laid-layers : (sh : Shape) → layers (laid sh) ≡ layers sh
+unfolding directions
+laid-layers = laid-cases (λ a b. layers a ≡ layers b) (λ depth n levels. refl) (λ sh _. refl)
+
+-- the points of layer k as it is laid stand in this layer of the shape itself
+pub laid-lands : (sh : Shape) (k : ℕ) → k < layers (laid sh) → (laidLayer sh k < layers sh) × ((p : ℕ) → inLayer (laid sh) k p ≡ true → inLayer sh (laidLayer sh k) p ≡ true)
+laid-lands sh k =
+    laid-cases (λ a b. k < layers a → (laidLayer b k < layers b) × ((p : ℕ) → inLayer a k p ≡ true → inLayer b (laidLayer b k) p ≡ true))
+    (λ depth n levels. lands depth n levels Linear k)
+    (λ sh f hk. rw f (hk, λ p m. m))
+    sh
 
 pub laid-samples : (sh : Shape) {e : ℕ} {xs : List ℤ} → Samples sh e xs → Samples (laid sh) e xs
 laid-samples sh s =
@@ -215,7 +267,7 @@ module _ (sh : Shape) (curve : Curve) where
   laid-ends : (g h : ℤ → ℕ → ℤ) → Same (layering (laid sh) curve) (layering sh curve) g h (layers (laid sh)) (layers sh)
   laid-ends g h =
       laid-cases (λ a b. Same (layering a curve) (layering b curve) g h (layers a) (layers b))
-      (λ depth n levels. ends depth n levels curve g h) (λ sh. (refl, refl)) sh
+      (λ depth n levels. ends depth n levels curve g h) (λ sh _. (refl, refl)) sh
 
   pub laid-rebuilt : (e : ℕ) (qs : List ℤ) → rebuilt (layering (laid sh) curve) e qs ≡ rebuilt (layering sh curve) e qs
   unfolding rebuilt

@@ -14,6 +14,7 @@ pub mod Walk
 pub mod Rows
 pub mod Range
 pub mod Column
+pub mod Counted
 pub mod Standing
 pub mod Worked
 pub mod Neighbours

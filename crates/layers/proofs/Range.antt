@@ -24,7 +24,7 @@ use Rattle.sheet.specs.Sheet.{accepted, points, place, layers, inLayer, directi
 use Rattle.layers.specs.Prediction.{width, rebuiltFrom, predicted, predictedAt}
 use Rattle.layers.specs.Layering.{layering, valuesBy, blank, reads, writes, rebuilt, coefs}
 use Rattle.layers.specs.Carry.{carried, curveOf, carry}
-use Rattle.layers.specs.Workings.Loops.{writtenMost, predictedMost, valueMost, Below, Samples}
+use Rattle.layers.specs.Workings.Loops.{writtenMost, predictedMost, countedMost, valueMost, Below, Samples}
 use Rattle.sheet.proofs.Rises.{rises}
 use Rattle.sheet.proofs.Accepting.{accepted-yes, layers-few}
 use Rattle.sheet.proofs.Fits.{place-in, place-has}
@@ -110,14 +110,14 @@ limit-rises B k = omega (arith, carried-up Cubic (limit B k))
 pub limit-all : (B k n : ℕ) → k ≤ n → limit B k ≤ limit B n
 limit-all B = rises (limit B) (limit-rises B)
 
-pub limit-most : limit (2 ^ 31) layersMost ≤ valueMost
+pub limit-most : limit countedMost layersMost ≤ valueMost
 unfolding limit carried ceilDiv
 limit-most = omega arith
 
--- no number of 23 digits to the base -2 is larger than this (`digits`, proofs/Range, `range-23`), and no value that such coefficients give has more
--- than 15 decimal digits
+-- no number of 23 digits to the base -2 is larger than 5,592,405 (`digits`, proofs/Range, `range-23`), so neither a coefficient that is read nor the middle that is added to it;
+-- and no value that such coefficients give has more than 15 decimal digits
 abbrev pub readMost : ℕ
-readMost = 5592405
+readMost = 2 * 5592405
 
 abbrev pub valueLimit : ℕ
 valueLimit = 10 ^ 15 - 1
@@ -163,9 +163,9 @@ module _ (sh : Shape) (ok : accepted sh ≡ true) (curve : Curve) (e : ℕ) (ste
   few : (B k : ℕ) → k ≤ layers sh → limit B k ≤ limit B layersMost
   few B k hk = limit-all B k layersMost (omega (arith, layers-few sh (accepted-yes sh ok)))
 
-  pub any-limit : ((p : ℕ) → p < points sh → Within (2 ^ 31) (at qs p)) → (vs : List ℤ) → length vs ≡ points sh → (k : ℕ) → k ≤ layers sh
+  pub any-limit : ((p : ℕ) → p < points sh → Within countedMost (at qs p)) → (vs : List ℤ) → length vs ≡ points sh → (k : ℕ) → k ≤ layers sh
       → Below valueMost sh curve k (valuesBy (layering sh curve) (reads e qs) vs k)
-  any-limit small vs l k hk p hp y = within-more (le-trans (few (2 ^ 31) k hk) limit-most) (stage-limit (2 ^ 31) small vs l k hk p hp y)
+  any-limit small vs l k hk p hp y = within-more (le-trans (few countedMost k hk) limit-most) (stage-limit countedMost small vs l k hk p hp y)
 
   -- after all layers, at every place: past the end stands 0
   pub rebuilt-limit : ((p : ℕ) → p < points sh → Within readMost (at qs p)) → (p : ℕ) → Within valueLimit (at (rebuilt (layering sh curve) e qs) p)

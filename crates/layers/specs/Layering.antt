@@ -4,7 +4,7 @@
 use mathlib.Core.Bool.{Bool, cond}
 use mathlib.Core.List.{List}
 use Prim.Native.Nat.{ℕ, zero, suc}
-use lib.IntN.{ℤ, pos}
+use lib.IntN.{ℤ, pos, _+ℤ_}
 use lib.ListN.{length, replicate}
 use Rattle.sheet.specs.declared.Shape.{Shape}
 use Rattle.sheet.specs.declared.Curve.{Curve}
@@ -63,6 +63,10 @@ reads e qs y p = rebuiltFrom y (at qs p) e
 
 unfoldable pub rebuilt : Layering → ℕ → List ℤ → List ℤ
 rebuilt Y e qs = valuesBy Y (reads e qs) (blank Y) (Y .layers)
+
+-- the coefficients as they count in rebuilding: `more k`, what the missing digits of layer k count as, is added to each of its own
+unfoldable pub counted : Shape → (ℕ → ℤ) → List ℤ → List ℤ
+counted sh more qs = tabulate (length qs) (λ p. at qs p +ℤ more (ownLayer sh p))
 
 -- writing: a point's coefficient from its sample, and its value from the coefficient. What is predicted comes from rebuilt values, never from samples
 abbrev pub makes : ℕ → List ℤ → ℤ → ℕ → ℤ

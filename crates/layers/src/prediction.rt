@@ -2,6 +2,7 @@
 ghost use mathlib.Core.Path.{_≡_};
 ghost use mathlib.Core.Bool.{true};
 ghost use Prim.Native.Nat.{_+_, _-_, _*_, _^_, _<_, _≤_};
+ghost use lib.IntN.{_+ℤ_};
 ghost use lib.ListN.{length};
 ghost use Rattle.integers.specs.Distance.{Within};
 ghost use Rattle.sheet.specs.Limits.{pointsMost, levelsMost, stepMost};
@@ -195,10 +196,18 @@ pub fn width_of(step: u64) -> u64
     width(step)
 }
 
-// The value that a coefficient gives where y is predicted.
+// The value that a coefficient gives where y is predicted and the layer adds `more` to its coefficients.
+pub(crate) fn value_with(y: i64, q: i32, more: i32, step: u64) -> i64
+    requires { ⌜ Within (2 * L.valueMost) y × (step ≤ stepMost) ⌝ }
+    ensures { λ v. ⌜ v ≡ P.rebuiltFrom y (q +ℤ more) step ⌝ }
+{
+    y + (q as i64 + more as i64) * width(step) as i64
+}
+
+// The same where nothing is added, as in writing.
 pub(crate) fn value(y: i64, q: i32, step: u64) -> i64
     requires { ⌜ Within (2 * L.valueMost) y × (step ≤ stepMost) ⌝ }
     ensures { λ v. ⌜ v ≡ P.rebuiltFrom y q step ⌝ }
 {
-    y + q as i64 * width(step) as i64
+    value_with(y, q, 0, step)
 }

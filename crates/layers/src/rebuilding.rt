@@ -15,11 +15,12 @@ ghost use Rattle.layers.specs.Workings.Calls as W;
 ghost use Rattle.layers.specs.Workings.Loops as L;
 use crate::prediction::crossing;
 use crate::prediction::predict_along;
-use crate::prediction::value;
+use crate::prediction::value_with;
 use crate::settled;
 use sheet::Curve;
 use sheet::Direction;
 use sheet::Grid;
+use sheet::MOST_LAYERS;
 use sheet::Shape;
 use sheet::grid_of;
 use sheet::laid;
@@ -30,6 +31,7 @@ fn rebuild_anchors(
     coefficients: &[i32],
     shape: Shape,
     step: u64,
+    more: i32,
     g: Grid,
     sheet: usize,
     row: usize,
@@ -37,7 +39,7 @@ fn rebuild_anchors(
 )
     requires { ⌜ L.AtRow shape (g .layer) g sheet row × (step ≤ stepMost) × (g .direction ≡ Anchor) ⌝ }
     requires { ⌜ (length (now coefficients) ≡ S.points shape) × (length (now values) ≡ S.points shape) ⌝ }
-    ensures { λ _. ⌜ ((curve : D.Curve) → now (values .exit) ≡ L.partBy shape curve (g .layer) (L.inRow shape (sheet * shape .rows + row)) (Y.reads step (now (coefficients .entry))) (now (values .entry)) (now (values .entry))) ⌝ }
+    ensures { λ _. ⌜ ((curve : D.Curve) → now (values .exit) ≡ L.partBy shape curve (g .layer) (L.inRow shape (sheet * shape .rows + row)) (L.readsWith more step (now (coefficients .entry))) (now (values .entry)) (now (values .entry))) ⌝ }
 {
     let cols = shape.cols;
     let mut col = g.col;
@@ -45,7 +47,7 @@ fn rebuild_anchors(
         let rows = shape.rows;
         let start = (sheet * rows + row) * cols;
         let p = start + col;
-        let v = value(0, coefficients[p], step);
+        let v = value_with(0, coefficients[p], more, step);
         values[p] = v;
         col += g.right;
     }
@@ -57,6 +59,7 @@ fn rebuild_along(
     shape: Shape,
     curve: Curve,
     step: u64,
+    more: i32,
     g: Grid,
     sheet: usize,
     row: usize,
@@ -64,7 +67,7 @@ fn rebuild_along(
 )
     requires { ⌜ L.AtRow shape (g .layer) g sheet row × (step ≤ stepMost) × (g .direction ≡ Across) ⌝ }
     requires { ⌜ (length (now coefficients) ≡ S.points shape) × (length (now values) ≡ S.points shape) × L.Below L.valueMost shape curve (g .layer) (now values) ⌝ }
-    ensures { λ _. ⌜ now (values .exit) ≡ L.partBy shape curve (g .layer) (L.inRow shape (sheet * shape .rows + row)) (Y.reads step (now (coefficients .entry))) (now (values .entry)) (now (values .entry)) ⌝ }
+    ensures { λ _. ⌜ now (values .exit) ≡ L.partBy shape curve (g .layer) (L.inRow shape (sheet * shape .rows + row)) (L.readsWith more step (now (coefficients .entry))) (now (values .entry)) (now (values .entry)) ⌝ }
 {
     let cols = shape.cols;
     let s = g.spacing;
@@ -74,7 +77,7 @@ fn rebuild_along(
         let start = (sheet * rows + row) * cols;
         let p = start + col;
         let y = predict_along(values, curve, start, 1, cols, col, s);
-        let v = value(y, coefficients[p], step);
+        let v = value_with(y, coefficients[p], more, step);
         values[p] = v;
         col += g.right;
     }
@@ -86,6 +89,7 @@ fn rebuild_crossed(
     shape: Shape,
     curve: Curve,
     step: u64,
+    more: i32,
     g: Grid,
     sheet: usize,
     row: usize,
@@ -93,7 +97,7 @@ fn rebuild_crossed(
 )
     requires { ⌜ L.AtRow shape (g .layer) g sheet row × (step ≤ stepMost) × (L.crosses (g .direction) ≡ true) ⌝ }
     requires { ⌜ (length (now coefficients) ≡ S.points shape) × (length (now values) ≡ S.points shape) × L.Below L.valueMost shape curve (g .layer) (now values) ⌝ }
-    ensures { λ _. ⌜ now (values .exit) ≡ L.partBy shape curve (g .layer) (L.inRow shape (sheet * shape .rows + row)) (Y.reads step (now (coefficients .entry))) (now (values .entry)) (now (values .entry)) ⌝ }
+    ensures { λ _. ⌜ now (values .exit) ≡ L.partBy shape curve (g .layer) (L.inRow shape (sheet * shape .rows + row)) (L.readsWith more step (now (coefficients .entry))) (now (values .entry)) (now (values .entry)) ⌝ }
 {
     let cols = shape.cols;
     let s = g.spacing;
@@ -105,7 +109,7 @@ fn rebuild_crossed(
         let start = (sheet * rows + row) * cols;
         let p = start + col;
         let y = predict_along(values, curve, x.start + col, x.stride, x.count, x.place, s);
-        let v = value(y, coefficients[p], step);
+        let v = value_with(y, coefficients[p], more, step);
         values[p] = v;
         col += g.right;
     }
@@ -117,6 +121,7 @@ fn rebuild_row(
     shape: Shape,
     curve: Curve,
     step: u64,
+    more: i32,
     g: Grid,
     sheet: usize,
     row: usize,
@@ -124,18 +129,48 @@ fn rebuild_row(
 )
     requires { ⌜ L.AtRow shape (g .layer) g sheet row × (step ≤ stepMost) ⌝ }
     requires { ⌜ (length (now coefficients) ≡ S.points shape) × (length (now values) ≡ S.points shape) × L.Below L.valueMost shape curve (g .layer) (now values) ⌝ }
-    ensures { λ _. ⌜ now (values .exit) ≡ L.partBy shape curve (g .layer) (L.inRow shape (sheet * shape .rows + row)) (Y.reads step (now (coefficients .entry))) (now (values .entry)) (now (values .entry)) ⌝ }
+    ensures { λ _. ⌜ now (values .exit) ≡ L.partBy shape curve (g .layer) (L.inRow shape (sheet * shape .rows + row)) (L.readsWith more step (now (coefficients .entry))) (now (values .entry)) (now (values .entry)) ⌝ }
 {
     let dir = g.direction;
     match dir {
-        Direction::Anchor => rebuild_anchors(coefficients, shape, step, g, sheet, row, values),
-        Direction::Across => rebuild_along(coefficients, shape, curve, step, g, sheet, row, values),
-        Direction::Down => rebuild_crossed(coefficients, shape, curve, step, g, sheet, row, values),
+        Direction::Anchor => rebuild_anchors(
+            coefficients,
+            shape,
+            step,
+            more,
+            g,
+            sheet,
+            row,
+            values,
+        ),
+        Direction::Across => rebuild_along(
+            coefficients,
+            shape,
+            curve,
+            step,
+            more,
+            g,
+            sheet,
+            row,
+            values,
+        ),
+        Direction::Down => rebuild_crossed(
+            coefficients,
+            shape,
+            curve,
+            step,
+            more,
+            g,
+            sheet,
+            row,
+            values,
+        ),
         Direction::Between => rebuild_crossed(
             coefficients,
             shape,
             curve,
             step,
+            more,
             g,
             sheet,
             row,
@@ -150,18 +185,29 @@ fn rebuild_sheet(
     shape: Shape,
     curve: Curve,
     step: u64,
+    more: i32,
     g: Grid,
     sheet: usize,
     values: &mut [i64],
 )
     requires { ⌜ L.AtSheet shape (g .layer) g sheet × (step ≤ stepMost) ⌝ }
     requires { ⌜ (length (now coefficients) ≡ S.points shape) × (length (now values) ≡ S.points shape) × L.Below L.valueMost shape curve (g .layer) (now values) ⌝ }
-    ensures { λ _. ⌜ now (values .exit) ≡ L.partBy shape curve (g .layer) (L.inSheet shape sheet) (Y.reads step (now (coefficients .entry))) (now (values .entry)) (now (values .entry)) ⌝ }
+    ensures { λ _. ⌜ now (values .exit) ≡ L.partBy shape curve (g .layer) (L.inSheet shape sheet) (L.readsWith more step (now (coefficients .entry))) (now (values .entry)) (now (values .entry)) ⌝ }
 {
     let rows = shape.rows;
     let mut row = g.row;
     while row < rows {
-        rebuild_row(coefficients, shape, curve, step, g, sheet, row, values);
+        rebuild_row(
+            coefficients,
+            shape,
+            curve,
+            step,
+            more,
+            g,
+            sheet,
+            row,
+            values,
+        );
         row += g.down;
     }
 }
@@ -172,18 +218,19 @@ fn rebuild_layer(
     shape: Shape,
     curve: Curve,
     step: u64,
+    more: i32,
     layer: usize,
     values: &mut [i64],
 )
     requires { ⌜ (S.accepted shape ≡ true) × (step ≤ stepMost) × (layer < S.layers shape) ⌝ }
     requires { ⌜ (length (now coefficients) ≡ S.points shape) × (length (now values) ≡ S.points shape) × L.Below L.valueMost shape curve layer (now values) ⌝ }
-    ensures { λ _. ⌜ now (values .exit) ≡ Y.layerBy (Y.layering shape curve) layer (Y.reads step (now (coefficients .entry))) (now (values .entry)) (now (values .entry)) ⌝ }
+    ensures { λ _. ⌜ now (values .exit) ≡ Y.layerBy (Y.layering shape curve) layer (L.readsWith more step (now (coefficients .entry))) (now (values .entry)) (now (values .entry)) ⌝ }
 {
     let depth = shape.depth;
     let g = grid_of(shape, layer);
     let mut sheet = g.sheet;
     while sheet < depth {
-        rebuild_sheet(coefficients, shape, curve, step, g, sheet, values);
+        rebuild_sheet(coefficients, shape, curve, step, more, g, sheet, values);
         sheet += g.deep;
     }
 }
@@ -198,27 +245,56 @@ fn are_i32(coefficients: &[i32])
     }
 }
 
-fn rebuild_layers(coefficients: &[i32], shape: Shape, curve: Curve, step: u64, values: &mut [i64])
-    requires { ⌜ (S.accepted shape ≡ true) × (step ≤ stepMost) ⌝ }
-    requires { ⌜ (length (now coefficients) ≡ S.points shape) × (length (now values) ≡ S.points shape) ⌝ }
-    ensures { λ _. ⌜ now (values .exit) ≡ Y.rebuilt (Y.layering shape curve) step (now (coefficients .entry)) ⌝ }
+// The layer of a shape that has the points of this layer of the shape as it is laid: a row's layers across are a column's layers down.
+fn laid_layer(shape: Shape, layer: usize) -> usize
+    requires { ⌜ (S.accepted shape ≡ true) × (layer < S.layers shape) ⌝ }
+    ensures { λ r. ⌜ r ≡ L.laidLayer shape layer ⌝ }
 {
-    are_i32(coefficients);
-    let layers = layer_count(shape);
-    for layer in 0..layers {
-        rebuild_layer(coefficients, shape, curve, step, layer, values);
+    if shape.cols != 1 {
+        return layer;
+    }
+    let g = grid_of(shape, layer);
+    let dir = g.direction;
+    match dir {
+        Direction::Anchor => layer,
+        Direction::Across => layer + 1,
+        Direction::Down => layer,
+        Direction::Between => layer,
     }
 }
 
-// Coefficients to values, whatever the coefficients. Where a size is not right, nothing changes.
+fn rebuild_layers(
+    coefficients: &[i32],
+    shape: Shape,
+    curve: Curve,
+    step: u64,
+    more: &[i32; MOST_LAYERS],
+    values: &mut [i64],
+)
+    requires { ⌜ (S.accepted shape ≡ true) × (step ≤ stepMost) ⌝ }
+    requires { ⌜ (length (now coefficients) ≡ S.points shape) × (length (now values) ≡ S.points shape) ⌝ }
+    ensures { λ _. ⌜ now (values .exit) ≡ Y.rebuilt (Y.layering shape curve) step (Y.counted shape (at (now (more .entry))) (now (coefficients .entry))) ⌝ }
+{
+    are_i32(coefficients);
+    are_i32(more);
+    let row = laid(shape);
+    let layers = layer_count(shape);
+    for layer in 0..layers {
+        let own = laid_layer(shape, layer);
+        rebuild_layer(coefficients, row, curve, step, more[own], layer, values);
+    }
+}
+
+// Coefficients to values, whatever the coefficients; `more` is what each layer adds to its own. Where a size is not right, nothing changes.
 pub fn rebuild(
     coefficients: &[i32],
     shape: Shape,
     curve: Curve,
     step: u64,
+    more: &[i32; MOST_LAYERS],
     values: &mut [i64],
 ) -> bool
-    ensures { λ r. ⌜ (r ≡ W.rebuildable shape step (now (coefficients .entry)) (now (values .entry))) × (now (values .exit) ≡ W.rebuilding shape curve step (now (coefficients .entry)) (now (values .entry))) ⌝ }
+    ensures { λ r. ⌜ (r ≡ W.rebuildable shape step (now (coefficients .entry)) (now (values .entry))) × (now (values .exit) ≡ W.rebuilding shape curve step (now (more .entry)) (now (coefficients .entry)) (now (values .entry))) ⌝ }
 {
     if !settled(shape, step) {
         return false;
@@ -230,6 +306,6 @@ pub fn rebuild(
     if values.len() != points {
         return false;
     }
-    rebuild_layers(coefficients, laid(shape), curve, step, values);
+    rebuild_layers(coefficients, shape, curve, step, more, values);
     true
 }

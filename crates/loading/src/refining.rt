@@ -1,11 +1,12 @@
 // One plane more, added to coefficients.
 ghost use mathlib.Core.Path.{_≡_};
-ghost use mathlib.Core.Bool.{true};
+ghost use mathlib.Core.Bool.{true, cond, not};
 ghost use Prim.Native.Nat.{ℕ, _+_, _*_, _/_, _^_, _<_, _≤_};
 ghost use lib.IntN.{pos, _+ℤ_, _*ℤ_};
 ghost use lib.ListN.{length};
 ghost use Rattle.integers.specs.Distance.{Within};
 ghost use Rattle.digits.specs.Digits.{weight, holds};
+ghost use Rattle.sheet.specs.Limits.{pointsMost};
 ghost use Rattle.sheet.specs.Lists.{at};
 ghost use Rattle.sheet.specs.Sheet as S;
 ghost use Rattle.header.specs.Header as Hd;
@@ -25,20 +26,29 @@ const LEAST_COEFFICIENT: i32 = -2796202;
 
 const MOST_COEFFICIENT: i32 = 5592405;
 
-// Is every coefficient one of 23 digits?
+// 1 for a number that 23 digits do not hold, and 0 for one that they hold.
+fn outside(q: i32) -> u32
+    ensures { λ r. ⌜ r ≡ cond (not (holds Hd.placesMost q)) 1 0 ⌝ }
+{
+    if q < LEAST_COEFFICIENT {
+        return 1;
+    }
+    if MOST_COEFFICIENT < q {
+        return 1;
+    }
+    0
+}
+
+// Is every coefficient one of 23 digits? Those that are not are counted: with no way out of the loop, several are looked at at a time.
 fn all_held(coefficients: &[i32]) -> bool
+    requires { ⌜ length (now coefficients) ≤ pointsMost ⌝ }
     ensures { λ r. ⌜ r ≡ P.allHeld (now (coefficients .entry)) ⌝ }
 {
+    let mut number: u32 = 0;
     for j in 0..coefficients.len() {
-        let q = coefficients[j];
-        if q < LEAST_COEFFICIENT {
-            return false;
-        }
-        if MOST_COEFFICIENT < q {
-            return false;
-        }
+        number += outside(coefficients[j]);
     }
-    true
+    number == 0
 }
 
 // (-2) to the power p.

@@ -11,7 +11,8 @@ use lib.ListN.{length, getD, set, replicate, length-set}
 use lib.Seq.{ext-getD, getD-set-same, getD-set-other}
 use Rattle.integers.proofs.Bools.{not-yes}
 use Rattle.integers.proofs.Diff.{lit, _⊖_}
-use Rattle.digits.specs.Digits.{evens, odds, holds, fewest}
+use Rattle.digits.specs.Digits.{holds, fewest}
+use Rattle.digits.proofs.Weights.{evens, odds}
 use Rattle.digits.proofs.Range.{Holds, holds-yes, holds-by, holds-up, range-23}
 use Rattle.digits.proofs.Fewest.{fewest-le, fewest-holds}
 use Rattle.digits.proofs.Firsts.{first-none, first-only}

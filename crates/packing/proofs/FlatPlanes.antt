@@ -11,8 +11,9 @@ use lib.ListN.{length, getD}
 use lib.Seq.{sets}
 use borrow.Author.Tests.{ltb-true, eq-eqb, ne-eqb}
 use Rattle.integers.proofs.Bools.{by}
-use Rattle.digits.specs.Digits.{evens, odds, digitAt, holds}
-use Rattle.digits.proofs.Range.{Holds, holds-yes, range-23}
+use Rattle.digits.specs.Digits.{digitAt, holds}
+use Rattle.digits.proofs.Weights.{odds}
+use Rattle.digits.proofs.Range.{Holds, holds-yes, holds-by, range-23}
 use Rattle.digits.proofs.Expansion.{digit-past}
 use Rattle.digits.proofs.Offset.{flipAt, digit-offset}
 use Rattle.sheet.specs.declared.Shape.{Shape}
@@ -118,14 +119,12 @@ word-digit q p h l =
     ∙ turned-flip p (natAbs (q +ℤ pos (odds placesMost)) / 2 ^ p % 2)
     ∙ sym (digit-offset placesMost p q (holds-yes placesMost q h) l))
 
-zero-held : Holds 0 (pos 0)
-unfolding evens odds
-zero-held = omega arith
+-- any digits hold 0
+zero-held : (n : ℕ) → Holds n (pos 0)
+zero-held n = omega arith
 
--- 23 digits hold 0
 pub zero-holds : holds placesMost (pos 0) ≡ true
-unfolding holds evens odds
-zero-holds = refl
+zero-holds = holds-by placesMost (pos 0) (zero-held placesMost)
 
 spare-word : wordOf (pos 0) ≡ offset
 unfolding wordOf
@@ -135,7 +134,7 @@ pub spare-digit : (p : ℕ) → p < placesMost → turned p (offset / 2 ^ p % 2)
 spare-digit p l =
     ap (λ (w : ℕ). turned p (w / 2 ^ p % 2)) (sym spare-word)
     ∙ word-digit (pos 0) p zero-holds l
-    ∙ digit-past 0 p (pos 0) zero-held (omega arith)
+    ∙ digit-past 0 p (pos 0) (zero-held 0) (omega arith)
 
 -- ---- planes from words are planes
 module _ (sh : Shape) (qs : List ℤ) (ws : List ℕ) (all : Gathered sh qs ws) (held : (j : ℕ) → j < points sh → holds placesMost (at qs j) ≡ true) where

@@ -1,5 +1,5 @@
 -- Lists made by place, and places counted by a test: induction on the number of places.
-use mathlib.Core.Path.{_≡_, refl, ap, _∙_}
+use mathlib.Core.Path.{_≡_, refl, sym, ap, _∙_}
 use mathlib.Core.Bool.{Bool, true, false, cond, _||_, true≢false}
 use Prim.Native.Nat.{ℕ, zero, suc, _+_, _<_, _≤_}
 use native.Mathlib.Nat.{le-refl, le-of-suc-le-suc, not-suc-le-zero}
@@ -44,6 +44,13 @@ module _ (t : ℕ → Bool) where
   pub count-no : (n : ℕ) → t n ≡ false → count t (suc n) ≡ count t n
   unfolding count
   count-no n m = rw m
+
+  -- counted by a mark, which is 0 or 1
+  pub mark-most : (n : ℕ) → cond (t n) 1 0 ≤ 1
+  mark-most n = by (t n) (λ m. rw m (omega arith)) (λ m. rw m (omega arith))
+
+  pub count-on : (n : ℕ) → count t n + cond (t n) 1 0 ≡ count t (suc n)
+  count-on n = by (t n) (λ m. rw m (sym (count-yes n m))) (λ m. rw m (omega (arith, count-no n m)))
 
   pub count-next : (n : ℕ) → count t n ≤ count t (suc n)
   count-next n = by (t n) (λ m. omega (arith, count-yes n m)) (λ m. omega (arith, count-no n m))

@@ -102,7 +102,7 @@ pub fn show_unless(
     load(&header, body, &plan, &mut words).map_err(|layer| Refusal::with(8, layer))?;
     check(&header)?;
     spread(&header, &words, coefficients);
-    rebuild(&header, coefficients, values);
+    rebuild(&header, &plan, coefficients, values);
     let figure = header.figure(&plan);
     Ok((header, Reached { plan, figure }))
 }
@@ -157,12 +157,14 @@ pub fn refine(
     } else {
         -(1 << p)
     };
-    for (i, at) in grid.places(header.rows, header.cols).enumerate() {
+    let mut i = 0;
+    grid.each_place(header.rows, header.cols, |at| {
         coefficients[at] += i32::from(plane[i / 8] >> (i % 8) & 1) * weight;
-    }
-    rebuild(&header, coefficients, values);
+        i += 1;
+    });
     let mut reached = *plan;
     reached[k] += 1;
+    rebuild(&header, &reached, coefficients, values);
     Ok(Reached {
         plan: reached,
         figure: header.figure(&reached),

@@ -1,6 +1,6 @@
 //! Layers as grids: quantizing and rebuilding in place.
 
-use super::Header;
+use super::{middle, Header, Plan};
 use crate::model::Curve;
 
 /// The rows and columns of a layer, and the way its points look.
@@ -108,25 +108,28 @@ fn predict(
     (b + c) >> 1
 }
 
-/// Every point of the sheet, layer by layer, with what is predicted there.
+/// Every point of a layer, with what is predicted there.
 #[inline(always)]
-fn each_point(header: &Header, values: &mut [i64], mut make: impl FnMut(usize, i64) -> i64) {
+fn each_point(
+    header: &Header,
+    layer: usize,
+    values: &mut [i64],
+    mut make: impl FnMut(usize, i64) -> i64,
+) {
     let (rows, cols) = (header.rows, header.cols);
     let cubic = header.curve == Curve::Cubic;
-    for layer in 0..header.layers() {
-        let g = Grid::of(header.levels, layer);
-        for row in (g.row..rows).step_by(g.down) {
-            for col in (g.col..cols).step_by(g.right) {
-                let at = row * cols + col;
-                let predicted = if g.spacing == 0 {
-                    0
-                } else if g.across {
-                    predict(values, cubic, at, 1, col, cols, g.spacing)
-                } else {
-                    predict(values, cubic, at, cols, row, rows, g.spacing)
-                };
-                values[at] = make(at, predicted);
-            }
+    let g = Grid::of(header.levels, layer);
+    for row in (g.row..rows).step_by(g.down) {
+        for col in (g.col..cols).step_by(g.right) {
+            let at = row * cols + col;
+            let predicted = if g.spacing == 0 {
+                0
+            } else if g.across {
+                predict(values, cubic, at, 1, col, cols, g.spacing)
+            } else {
+                predict(values, cubic, at, cols, row, rows, g.spacing)
+            };
+            values[at] = make(at, predicted);
         }
     }
 }
@@ -135,24 +138,31 @@ fn each_point(header: &Header, values: &mut [i64], mut make: impl FnMut(usize, i
 pub fn quantize(header: &Header, samples: &[i32], coefficients: &mut [i32], values: &mut [i64]) {
     let step = header.step as i64;
     let width = 2 * step + 1;
-    // Nothing is divided where the width is 1.
-    if step == 0 {
-        return each_point(header, values, |at, predicted| {
-            coefficients[at] = (i64::from(samples[at]) - predicted) as i32;
-            i64::from(samples[at])
-        });
+    for layer in 0..header.layers() {
+        // Nothing is divided where the width is 1.
+        if step == 0 {
+            each_point(header, layer, values, |at, predicted| {
+                coefficients[at] = (i64::from(samples[at]) - predicted) as i32;
+                i64::from(samples[at])
+            });
+        } else {
+            each_point(header, layer, values, |at, predicted| {
+                let q = (i64::from(samples[at]) - predicted + step).div_euclid(width);
+                coefficients[at] = q as i32;
+                predicted + q * width
+            });
+        }
     }
-    each_point(header, values, |at, predicted| {
-        let q = (i64::from(samples[at]) - predicted + step).div_euclid(width);
-        coefficients[at] = q as i32;
-        predicted + q * width
-    });
 }
 
-/// Coefficients to values.
-pub fn rebuild(header: &Header, coefficients: &[i32], values: &mut [i64]) {
+/// Coefficients to values. What the missing digits of a layer count as is the same at all its points; with it a
+/// coefficient is still far from the ends of 32 bits.
+pub fn rebuild(header: &Header, plan: &Plan, coefficients: &[i32], values: &mut [i64]) {
     let width = 2 * header.step as i64 + 1;
-    each_point(header, values, |at, predicted| {
-        predicted + i64::from(coefficients[at]) * width
-    });
+    for (layer, &loaded) in plan.iter().enumerate().take(header.layers()) {
+        let middle = middle(header.planes[layer] - loaded);
+        each_point(header, layer, values, |at, predicted| {
+            predicted + i64::from(coefficients[at] + middle) * width
+        });
+    }
 }

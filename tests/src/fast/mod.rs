@@ -76,9 +76,16 @@ impl Header {
         self.step + standing
     }
 
+    /// What a layer adds to the figure: half of what so many digits make, and nothing for none.
     pub fn charge(&self, missing: u64) -> u64 {
-        (2 << missing) / 3 * (2 * self.step + 1)
+        ((1 << missing) >> 1) * (2 * self.step + 1)
     }
+}
+
+/// What so many missing digits count as: halfway between the even places alone and the odd ones alone.
+fn middle(missing: u64) -> i32 {
+    let all = (1_i32 << missing) - 1;
+    ((all & 0x5555_5555) - (all & 0x2AAA_AAAA)) >> 1
 }
 
 /// What stands before a layer, carried.

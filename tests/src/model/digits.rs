@@ -24,6 +24,21 @@ pub fn weight(place: u64) -> i64 {
     (-2_i64).pow(place as u32)
 }
 
+/// The least that so many digits can be: a 1 at every odd place, and at no other.
+pub fn low(digits: u64) -> i64 {
+    -2 * (4_i64.pow(digits as u32 / 2) - 1) / 3
+}
+
+/// The greatest: a 1 at every even place, and at no other.
+pub fn high(digits: u64) -> i64 {
+    (4_i64.pow(digits.div_ceil(2) as u32) - 1) / 3
+}
+
+/// The middle of what so many digits can be, for which they count in a value where they are missing.
+pub fn middle(digits: u64) -> i64 {
+    (low(digits) + high(digits)).div_euclid(2)
+}
+
 /// The fewest digits that hold every one of these: 0 where all are 0, and where there is none.
 pub fn digits_needed(coefficients: &[i64]) -> u64 {
     coefficients

@@ -1,15 +1,18 @@
 //! How far a value may stand from its sample (docs/CARD.md, "The figure").
 
 use super::header::{open, Opened};
-use super::plan::{check_plan, Plan};
+use super::plan::{check_plan, missing_of, Plan};
 use super::predict::Curve;
 use super::refusal::Refusal;
 use super::sheet::{Layer, Shape};
 use super::steps::width;
 
-/// The most that a coefficient is off where so many of its digits count as 0.
+/// The most that a coefficient is off where so many of its digits count as their middle.
 pub fn loss(digits: u64) -> u64 {
-    (1_u64 << (digits + 1)) / 3
+    match digits {
+        0 => 0,
+        _ => 1 << (digits - 1),
+    }
 }
 
 /// What an error becomes by a curve in a point that is predicted from values so far off.
@@ -56,8 +59,8 @@ pub fn standing_after(opened: &Opened, layer: usize, standing: u64, missing: u64
 /// The figure of a plan that loads no more than the header's counts.
 pub fn figure_of(opened: &Opened, plan: &Plan) -> u64 {
     let mut standing = 0;
-    for (layer, &planes) in opened.planes.iter().enumerate() {
-        standing = standing_after(opened, layer, standing, planes - plan[layer]);
+    for (layer, missing) in missing_of(&opened.planes, plan).into_iter().enumerate() {
+        standing = standing_after(opened, layer, standing, missing);
     }
     opened.step + standing
 }

@@ -1,5 +1,5 @@
-//! The model, one file for each idea of docs/CARD.md. All but the roll, comparing, the program trace and what narrow layers carry
-//! was written before that document, from the customer's request; none of it shares code or structure with the proved side.
+//! The model, one file for each idea of docs/CARD.md. All but the roll, comparing, the program trace, what narrow layers carry and what
+//! missing digits count as was written before that document, from the customer's request; none of it shares code or structure with the proved side.
 
 pub mod compare;
 pub mod digits;

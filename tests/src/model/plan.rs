@@ -20,6 +20,12 @@ pub fn check_plan(plan: &Plan, most: &[u64]) -> Result<(), Refusal> {
     Ok(())
 }
 
+/// The planes of each layer that a plan leaves out: so many digits of its coefficients are missing.
+pub fn missing_of(planes: &[u64], plan: &Plan) -> Vec<u64> {
+    let counts = planes.iter().zip(plan);
+    counts.map(|(&planes, &loaded)| planes - loaded).collect()
+}
+
 /// The plan of these counts, 0 past the last layer.
 pub fn plan_of(counts: &[u64]) -> Plan {
     let mut plan = [0; MAX_LAYERS];

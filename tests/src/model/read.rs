@@ -3,7 +3,7 @@
 use super::digits::{weight, GREATEST_COEFFICIENT, LEAST_COEFFICIENT};
 use super::figure::figure_of;
 use super::header::{open, Opened};
-use super::plan::{check_plan, plan_of, Plan};
+use super::plan::{check_plan, missing_of, plan_of, Plan};
 use super::planes::{card_order, digits_in_plane, planes_of_plan, whole_planes, Plane};
 use super::refusal::{self, Refusal};
 use super::steps::rebuild;
@@ -43,7 +43,8 @@ fn add_plane(plane: &Plane, digits: &[bool], places: &[usize], coefficients: &mu
     }
 }
 
-/// Puts these coefficients and their values into the lent slices.
+/// Puts these coefficients and their values into the lent slices: the digits that the plan leaves out are 0 in
+/// the coefficients, and in the values they count as their middle.
 fn leave(
     opened: &Opened,
     plan: &Plan,
@@ -51,7 +52,9 @@ fn leave(
     coefficients: &mut [i32],
     values: &mut [i64],
 ) -> Reached {
-    values.copy_from_slice(&rebuild(opened.shape(), opened.curve, opened.step, found));
+    let missing = missing_of(&opened.planes, plan);
+    let (shape, curve, step) = (opened.shape(), opened.curve, opened.step);
+    values.copy_from_slice(&rebuild(shape, curve, step, found, &missing));
     coefficients.copy_from_slice(found);
     Reached {
         plan: *plan,
@@ -67,7 +70,7 @@ fn read_whole_planes(
     coefficients: &mut [i32],
     values: &mut [i64],
 ) -> Result<Reached, Refusal> {
-    // Digits that are not loaded count as 0.
+    // Digits that are not loaded stay 0 here.
     let mut found = vec![0; opened.shape().count()];
     let places = places_of_layers(opened);
     // In card order, so that the first plane found wrong is the one refused.

@@ -30,11 +30,11 @@ pub const CELLS: [u8; 6] = [4, 4, 7, 5, 1, 1];
 
 /// The page of the roll of its first 160 bytes.
 pub const ROLL: &str = "                      10
-   0   0              12
-   0   1              12
-   0   2              12
-   0   3              24
-   0   4              36
+   0   0               9
+   0   1               9
+   0   2               9
+   0   3              21
+   0   4              33
 ";
 
 pub const HEADER_BYTES: usize = 64;
@@ -55,32 +55,37 @@ pub fn with_line(number: usize, line: &[u8]) -> Vec<u8> {
 pub struct Shown {
     pub length: usize,
     pub reached: Reached,
+    /// Of plain digits, the missing ones 0.
+    pub coefficients: [i32; 5],
     pub values: [i64; 5],
 }
 
-/// Whole, with three planes, with two and with none. Without planes every value is 0; with all of
-/// them the values are the rebuilt ones and the figure is the step.
+/// Whole, with three planes, with two and with none. With all of them the values are the rebuilt ones
+/// and the figure is the step.
 ///
-/// The values of 2,0,0 are not said. By hand: the two planes loaded are those of layer 0 at the
-/// places 4 and 3, whose weights are 16 and -8. Both have the first byte 4 = 2^2, so the anchors 0
-/// and 1 have no 1 in them, and anchor 2 has one in each. The anchors' coefficients are 0, 0 and
-/// 16 - 8 = 8; predicted as 0 and with w = 2 * 1 + 1 = 3, columns 0, 2 and 4 become 0, 0 and
-/// 8 * 3 = 24. Layer 1 has no plane, so its coefficients are 0 and its points are as predicted:
-/// column 1 is (0 + 0) / 2 = 0 and column 3 is (0 + 24) / 2 = 12. Layer 2 is empty.
+/// By hand, of 2,0,0: the two planes loaded are those of layer 0 at the places 4 and 3, whose weights
+/// are 16 and -8. Both have the first byte 4 = 2^2, so the anchors 0 and 1 have no 1 in them, and
+/// anchor 2 has one in each. The anchors' coefficients are 0, 0 and 16 - 8 = 8. Three digits are
+/// missing, which can be from -2 to 5 and count as 3 / 2 rounded down, 1; predicted as 0 and with
+/// w = 2 * 1 + 1 = 3, columns 0, 2 and 4 become 1 * 3 = 3, 3 and 9 * 3 = 27. Layer 1 has no plane, and
+/// its one digit, 0 or 1, counts as 0, so its points are as predicted: column 1 is (3 + 3) / 2 = 3 and
+/// column 3 is (3 + 27) / 2 = 15. Layer 2 is empty. Of no planes: five digits are from -10 to 21 and
+/// count as 5, so every anchor becomes 15, and the others with them.
 pub fn shown() -> [Shown; 4] {
-    let shown = |length, first: &[u64], figure, values| Shown {
+    let shown = |length, first: &[u64], figure, coefficients, values| Shown {
         length,
         reached: Reached {
             plan: plan(first),
             figure,
         },
+        coefficients,
         values,
     };
     [
-        shown(256, &[5, 1], 1, VALUES),
-        shown(160, &[3], 10, [12, 12, 12, 24, 36]),
-        shown(159, &[2], 19, [0, 0, 0, 12, 24]),
-        shown(64, &[], 67, [0; 5]),
+        shown(256, &[5, 1], 1, COEFFICIENTS, VALUES),
+        shown(160, &[3], 10, [4, 0, 4, 0, 12], [9, 9, 9, 21, 33]),
+        shown(159, &[2], 16, [0, 0, 0, 0, 8], [3, 3, 3, 15, 27]),
+        shown(64, &[], 52, [0; 5], [15; 5]),
     ]
 }
 
@@ -139,7 +144,7 @@ pub struct Comparison {
 
 /// Whole, the finer card shows its samples, with the figure 0. Beside the bench card's values 9, 13, 12, 21
 /// and 30 they are 1, 0, 1, 1 and 8 off, and the figure there is 1. Behind three planes of its anchors its
-/// values are 12, 12, 12, 24 and 36, which is 2, 1, 1, 4 and 2 off, with the figure 10.
+/// values are 9, 9, 9, 21 and 33, which is 1, 4, 2, 1 and 5 off, with the figure 10.
 pub fn compared() -> [Comparison; 2] {
     let comparison = |length, apart, first, marks| Comparison {
         lengths: [length, FINE_CARD_BYTES],

@@ -9,6 +9,7 @@ pub mod document;
 pub mod extremes;
 pub mod faults;
 pub mod files;
+pub mod missing;
 pub mod narrow;
 pub mod page;
 
@@ -157,12 +158,16 @@ pub fn whole_in(opened: &Opened, length: usize) -> Plan {
     whole
 }
 
-/// The most that d digits can add up to: every other place from the top one down.
+/// Halfway between the odd places alone and the even ones alone, rounded down.
+pub fn middle_by_hand(d: u64) -> i64 {
+    let both_ends: i64 = (0..d).map(|p| (-2_i64).pow(p as u32)).sum();
+    both_ends >> 1
+}
+
+/// The most that d digits are from their middle. They make 2^d numbers in a row, so the ends are 2^d - 1 apart,
+/// and the further of them is half of that away, rounded up.
 pub fn loss_by_hand(d: u64) -> u64 {
-    (0..d)
-        .filter(|p| (d - 1 - p).is_multiple_of(2))
-        .map(|p| 1 << p)
-        .sum()
+    ((1_u64 << d) - 1).div_ceil(2)
 }
 
 /// Has a point of the layer all four neighbours? If any has, the one 3 spacings from the edge has: it

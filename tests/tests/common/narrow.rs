@@ -11,20 +11,20 @@ pub fn header() -> Vec<u8> {
 
 /// With no planes, and with one plane of each layer.
 fn figures() -> [(Plan, u64); 2] {
-    [(plan(&[]), 558), (plan(&[1; 5]), 278)]
+    [(plan(&[]), 421), (plan(&[1; 5]), 211)]
 }
 
-/// Limits and what planning answers, which the document does not say. By hand: within 558 nothing need be
-/// loaded, and within 557 one cell is enough. One plane of layer 0 leaves 170 + 10 + 85 + 2 = 267, which
-/// is carried to 1,335 / 4 rounded up, 334, and 10: the figure is 344. One of layer 1, 2 or 3 leaves 433,
-/// 395 or 437, and the figure is 552, 504 or 557; one of layer 4 leaves 548 + 5 = 553.
+/// Limits and what planning answers, which the document does not say. By hand: within 421 nothing need be
+/// loaded, and within 420 one cell is enough. One plane of layer 0 leaves 128 + 8 + 64 + 2 = 202, which
+/// is carried to 1,010 / 4 rounded up, 253, and 8: the figure is 261. One of layer 1, 2 or 3 leaves 326,
+/// 298 or 329, and the figure is 416, 381 or 420; one of layer 4 leaves 413 + 4 = 417.
 fn planned_by_limit() -> [(u64, Planned); 2] {
     let planned = |first: &[u64], cells, figure| Planned {
         plan: plan(first),
         cells,
         figure,
     };
-    [(558, planned(&[], 0, 558)), (557, planned(&[1], 1, 344))]
+    [(421, planned(&[], 0, 421)), (420, planned(&[1], 1, 261))]
 }
 
 type Figure = fn(&[u8], &Plan) -> Result<u64, Refusal>;

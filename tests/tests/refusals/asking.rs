@@ -10,7 +10,7 @@ fn the_figure_refuses_by_the_header() {
     for length in [64, 100, 256] {
         let cut = &card[..length];
         assert_eq!(figure(cut, &plan(&[5, 1])), Ok(1));
-        assert_eq!(figure(cut, &plan(&[])), Ok(67));
+        assert_eq!(figure(cut, &plan(&[])), Ok(52));
         assert_eq!(figure(cut, &plan(&[6])), Err(refusal(9, [0, 0])));
         assert_eq!(figure(cut, &plan(&[5, 2])), Err(refusal(9, [1, 0])));
         assert_eq!(figure(cut, &plan(&[5, 1, 1])), Err(refusal(9, [2, 0])));

@@ -112,21 +112,22 @@ fn refining_takes_coefficients_of_23_digits_only() {
         }
     }
     // At the ends of the range they are taken, and the new digit of weight 16 is added at
-    // the third anchor. The width is 3.
+    // the third anchor. The width is 3. Of the anchors four digits are missing now, whose middle is -3.
     let (reached, coefficients, values) =
         refine_on(&card, &plan(&[0]), 0, &[5_592_405; 5], 5).unwrap();
     assert_eq!(reached.plan, plan(&[1]));
     let top = 5_592_405;
     assert_eq!(coefficients, [top, top, top, top, top + 16]);
     let v = 3 * i64::from(top);
-    assert_eq!(values, [v, 2 * v, v, 2 * v + 24, v + 48]);
-    // A digit taken away at the lower end: the second plane has weight -8.
+    assert_eq!(values, [v - 9, 2 * v - 9, v - 9, 2 * v + 15, v + 39]);
+    // A digit taken away at the lower end: the second plane has weight -8. The middle of the three that
+    // are missing then is 1.
     let low = -2_796_202;
     let (reached, coefficients, values) = refine_on(&card, &plan(&[1]), 0, &[low; 5], 5).unwrap();
     assert_eq!(reached.plan, plan(&[2]));
     assert_eq!(coefficients, [low, low, low, low, low - 8]);
     let v = 3 * i64::from(low);
-    assert_eq!(values, [v, 2 * v, v, 2 * v - 12, v - 24]);
+    assert_eq!(values, [v + 3, 2 * v + 3, v + 3, 2 * v - 9, v - 21]);
 }
 
 #[test]

@@ -11,9 +11,10 @@ use Rattle.layers.specs.declared.Scan.the-variants.{Clear, OutAt}
 use Rattle.layers.specs.declared.Quantized.{Quantized}
 use Rattle.layers.specs.declared.Quantized.the-variants.{Done, Refused, OutOfRange}
 use Rattle.sheet.specs.Limits.{stepMost}
+use Rattle.sheet.specs.Lists.{at}
 use Rattle.sheet.specs.Sheet.{accepted}
 use Rattle.layers.specs.Prediction.{width}
-use Rattle.layers.specs.Layering.{layering, rebuilt, written, coefs}
+use Rattle.layers.specs.Layering.{layering, rebuilt, counted, written, coefs}
 use Rattle.layers.specs.Samples.{full, scanned}
 
 -- a shape and a step that are accepted
@@ -24,12 +25,12 @@ settled sh e = accepted sh && leb e stepMost
 unfoldable pub widthOf : ℕ → ℕ
 widthOf e = cond (leb e stepMost) (width e) 0
 
--- ---- rebuilding: the values follow from the coefficients alone; where a size is not right, nothing changes
+-- ---- rebuilding: the values follow from the coefficients and from what each layer adds to its own; where a size is not right, nothing changes
 unfoldable pub rebuildable : Shape → ℕ → List ℤ → List ℤ → Bool
 rebuildable sh e qs vs = settled sh e && (full sh qs && full sh vs)
 
-unfoldable pub rebuilding : Shape → Curve → ℕ → List ℤ → List ℤ → List ℤ
-rebuilding sh curve e qs vs = cond (rebuildable sh e qs vs) (rebuilt (layering sh curve) e qs) vs
+unfoldable pub rebuilding : Shape → Curve → ℕ → List ℤ → List ℤ → List ℤ → List ℤ
+rebuilding sh curve e more qs vs = cond (rebuildable sh e qs vs) (rebuilt (layering sh curve) e (counted sh (at more) qs)) vs
 
 -- ---- quantizing: coefficients and values of the samples; where a size is not right or a sample is out of range, nothing changes
 pub record Quantizing : Type 0 where

@@ -5,7 +5,7 @@ use mathlib.Core.List.{List}
 use mathlib.Core.Path.{_≡_}
 use Prim.Native.Nat.{ℕ, _+_, _-_, _*_, _/_, _%_, _^_, _<_, _≤_, zero, suc}
 use lib.Dec.{eqb}
-use lib.IntN.{ℤ}
+use lib.IntN.{ℤ, _+ℤ_}
 use lib.ListN.{length}
 use Rattle.integers.specs.Distance.{Within}
 use Rattle.sheet.specs.declared.Shape.{Shape}
@@ -16,9 +16,9 @@ use Rattle.sheet.specs.declared.Direction.{Direction}
 use Rattle.sheet.specs.declared.Direction.the-variants.{Anchor, Across, Down, Between}
 use Rattle.sheet.specs.Limits.{pointsMost, levelsMost, stepMost, sampleMost}
 use Rattle.sheet.specs.Lists.{at, tabulate}
-use Rattle.sheet.specs.Sheet.{accepted, points, place, layers}
+use Rattle.sheet.specs.Sheet.{accepted, points, place, layers, direction}
 use Rattle.sheet.specs.Workings.Lines.{gridOf}
-use Rattle.layers.specs.Prediction.{on}
+use Rattle.layers.specs.Prediction.{on, rebuiltFrom}
 use Rattle.layers.specs.Layering.{Layering, layering, pointBy}
 
 -- ---- the lines that cross row r of sheet z: its columns, or those from sheet to sheet for a layer between. Anchors and layers across ask for none
@@ -49,6 +49,22 @@ inSheet sh z p = eqb (p / sh .cols / sh .rows) z
 unfoldable pub partBy : Shape → Curve → ℕ → (ℕ → Bool) → (ℤ → ℕ → ℤ) → List ℤ → List ℤ → List ℤ
 partBy sh curve k part g vs old = tabulate (length old) (λ p. cond (part p) (pointBy (layering sh curve) k g vs old p) (at old p))
 
+-- ---- reading one layer: `more` is added to its coefficients
+abbrev pub readsWith : ℤ → ℕ → List ℤ → ℤ → ℕ → ℤ
+readsWith more e qs y p = rebuiltFrom y (at qs p +ℤ more) e
+
+-- a column is walked as a row. The column's layer that has the points of the row's layer k: the row's layers across are the column's layers down, and the
+-- row's layers down have none
+abbrev pub columnLayer : Direction → ℕ → ℕ
+columnLayer Anchor k = k
+columnLayer Across k = k + 1
+columnLayer Down k = k
+columnLayer Between k = k
+
+-- the layer of a shape that has the points of layer k of the shape as it is laid
+abbrev pub laidLayer : Shape → ℕ → ℕ
+laidLayer sh k = cond (eqb (sh .cols) 1) (columnLayer (direction sh k) k) k
+
 -- ---- bounds
 -- a value written is within the step of its sample, and a cubic prediction from such values within little more than five quarters of that
 abbrev pub writtenMost : ℕ
@@ -57,7 +73,10 @@ writtenMost = sampleMost + stepMost
 abbrev pub predictedMost : ℕ
 predictedMost = 1392640
 
--- a value rebuilt from any i32 coefficients (`Range.any-limit`)
+-- a coefficient is an i32 and so is what its layer adds to it; a value rebuilt from any such (`Range.any-limit`)
+abbrev pub countedMost : ℕ
+countedMost = 2 ^ 32
+
 abbrev pub valueMost : ℕ
 valueMost = 2 ^ 57
 

@@ -81,7 +81,7 @@ returns-2 c =
     let e : l .loop .p ≡ 0 = omega (arith, c .before .loop-test .left) in
     let end : Walked (spansOf (h .shape)) (h .planes) _ layersMost 0 (l .loop .found .planes) (l .loop .found .cells) = rw (e, w .spans .ensures) at (l .loop .inv .1) in
     let all : l .loop .found .planes ≡ tabulate layersMost (whole h (s .args .n)) =
-    filled-all _ _ (le-refl layersMost) (record { long = end .long; done = λ j i. walk-last end j i ∙ within-whole (s .args .n) (l .loop .inv .0) h (rightly (w .before)) j i }) in
+    filled-all {d = 0} _ _ (le-refl layersMost) (record { long = end .long; done = λ j i. walk-last end j i ∙ within-whole (s .args .n) (l .loop .inv .0) h (rightly (w .before)) j i }) in
     rw (is-so (w .before)) (ap (λ (ps : List ℕ). record { planes = ps }) all)
 
 pub whole-planes-spec : {M : Type 1} → statement M

@@ -1,7 +1,10 @@
--- By the refusal: it is passed on, and where there is none the two calls give the values and the figure.
+-- By the refusal: it is passed on, and where there is none the calls give the values and the figure.
+use mathlib.Core.List.{List}
 use mathlib.Core.Path.{refl, ap, _∙_}
+use lib.IntN.{ℤ}
 use borrow.Author.Needs.{needs}
 use denote.Ref.{now}
+use Rattle.layers.specs.Workings.Calls.{rebuilding}
 use Rattle.header.proofs.Refusing.{refusing}
 use Rattle.figure.specs.Bounding.{Bounding}
 use Rattle.card.specs.declared.Reached.{Reached}
@@ -13,6 +16,9 @@ use Rattle.card.proofs.reading.finish.Tie as tie
 
 enum-told : tie.Need-enum-told
 enum-told c = search needs
+
+middles-requires : tie.Need-middles-requires
+middles-requires c κs = search needs
 
 rebuild-requires : tie.Need-rebuild-requires
 rebuild-requires c κs = search needs
@@ -29,9 +35,14 @@ same-length c = search needs
 returns : tie.Need-returns
 returns c =
     let b = c .before .before in
-    let t = b .before .before .before in
+    let t = b .before .before .before .before .before in
     let s = t .before .before in
-    finished-yes (s .args .refusal) (t .enum-told .given .1) (s .args .header) (s .args .plan) (now (s .args .coefficients)) (now (s .args .values)) _ _ (b .rebuild .ensures .1) (ap (λ (x : Bounding). x .figure) (c .error-bound .ensures))
+    let h = s .args .header in
+    let qs = now (s .args .coefficients) in
+    let vs = now (s .args .values) in
+    finished-yes (s .args .refusal) (t .enum-told .given .1) h (s .args .plan) qs vs _ _
+    (b .rebuild .ensures .1 ∙ ap (λ (more : List ℤ). rebuilding (h .shape) (h .curve) (h .step) more qs vs) (b .before .before .before .middles .ensures))
+    (ap (λ (x : Bounding). x .figure) (c .error-bound .ensures))
 
 returns-2 : tie.Need-returns-2
 unfolding finished
@@ -47,6 +58,7 @@ finish-spec =
     tie.close
     (tie.spec
     enum-told
+    middles-requires
     rebuild-requires
     error-bound-requires
     refused-requires

@@ -9,10 +9,9 @@ use mir.Facts.{toZ-ofZ}
 use denote.Ref.{now}
 use Rattle.header.proofs.Fills.{Filled, filled-none, filled-more, filled-all}
 use Rattle.sheet.specs.Lists.{count}
-use Rattle.sheet.proofs.Lists.{count-most}
+use Rattle.sheet.proofs.Lists.{mark-most, count-on, count-most}
 use Rattle.compare.specs.Comparing.{agree, marks}
 use Rattle.compare.specs.Workings.{apartBy}
-use Rattle.compare.proofs.Marks.{mark-most, count-on}
 use Rattle.compare.proofs.marking.mark.Statement.{statement}
 use Rattle.compare.proofs.marking.mark.Tie as tie
 
@@ -20,7 +19,7 @@ abbrev Inv-loop : tie.InvT-loop
 Inv-loop figure1 values1 figure2 values2 apart₀ most number₀ p₀ p-end apart number p =
     (p ≤ p-end)
     × (p-end ≡ length apart₀)
-    × Filled (λ (q : ℕ). cond (apartBy figure1 values1 figure2 values2 q) 1 0) (length apart₀) p apart
+    × Filled 0 (λ (q : ℕ). cond (apartBy figure1 values1 figure2 values2 q) 1 0) (length apart₀) p apart
     × (number ≡ count (apartBy figure1 values1 figure2 values2) p)
 
 abbrev μ-loop : tie.MeasureT-loop

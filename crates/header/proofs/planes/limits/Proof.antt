@@ -10,7 +10,7 @@ use Rattle.header.proofs.planes.limits.Statement.{statement}
 use Rattle.header.proofs.planes.limits.Tie as tie
 
 abbrev Inv-loop : tie.InvT-loop
-Inv-loop spans most₀ k₀ most k = (k ≤ layersMost) × Filled (λ (j : ℕ). mostBy (getD spans j 0)) layersMost k most
+Inv-loop spans most₀ k₀ most k = (k ≤ layersMost) × Filled 0 (λ (j : ℕ). mostBy (getD spans j 0)) layersMost k most
 
 abbrev μ-loop : tie.MeasureT-loop
 μ-loop spans most₀ k₀ most k = layersMost - k

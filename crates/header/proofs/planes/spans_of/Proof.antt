@@ -9,7 +9,7 @@ use Rattle.header.proofs.planes.spans_of.Statement.{statement}
 use Rattle.header.proofs.planes.spans_of.Tie as tie
 
 abbrev Inv-loop : tie.InvT-loop
-Inv-loop shape spans₀ k₀ spans k = (k ≤ layersMost) × Filled (cellsAt shape) layersMost k spans
+Inv-loop shape spans₀ k₀ spans k = (k ≤ layersMost) × Filled 0 (cellsAt shape) layersMost k spans
 
 abbrev μ-loop : tie.MeasureT-loop
 μ-loop shape spans₀ k₀ spans k = layersMost - k

@@ -1,5 +1,4 @@
--- Each arm that refuses shows that one test of `rebuildable` is false; the last arm has passed them all, and its call gives the values of
--- the shape as it is laid, which are those of the shape itself.
+-- Each arm that refuses shows that one test of `rebuildable` is false; the last arm has passed them all, and its call gives the values.
 use mathlib.Core.Path.{_≡_, _∙_, sym}
 use mathlib.Core.Bool.{true, false, _&&_}
 use mathlib.Core.List.{List}
@@ -12,15 +11,14 @@ use borrow.Author.Tests.{not-true, not-false}
 use Rattle.sheet.specs.declared.Shape.{Shape}
 use Rattle.sheet.specs.declared.Curve.{Curve}
 use Rattle.sheet.specs.Limits.{stepMost}
+use Rattle.sheet.specs.Lists.{at}
 use Rattle.sheet.specs.Sheet.{accepted, points}
-use Rattle.sheet.specs.Workings.Shapes.{laid}
-use Rattle.layers.specs.Layering.{layering, rebuilt}
+use Rattle.layers.specs.Layering.{layering, rebuilt, counted}
 use Rattle.layers.specs.Samples.{full}
 use Rattle.layers.specs.Workings.Calls.{settled, rebuildable, rebuilding}
 use Rattle.integers.proofs.Bools.{and-both, and-no-left, and-no-right}
 use Rattle.sheet.proofs.Accepting.{points-in}
 use Rattle.layers.proofs.Answers.{settled-yes, full-yes, full-no}
-use Rattle.layers.proofs.Column.{laid-accepted, laid-points, laid-rebuilt}
 use Rattle.layers.proofs.rebuilding.rebuild.Statement.{statement}
 use Rattle.layers.proofs.rebuilding.rebuild.Tie as tie
 
@@ -42,14 +40,13 @@ module _ (sh : Shape) (e : ℕ) (qs vs : List ℤ) where
   unfolding rebuildable
   all-there h q v = and-both (settled sh e) (full sh qs && full sh vs) h (and-both (full sh qs) (full sh vs) (full-yes sh qs q) (full-yes sh vs v))
 
-  module _ (curve : Curve) where
-    refused : rebuildable sh e qs vs ≡ false → (false ≡ rebuildable sh e qs vs) × (vs ≡ rebuilding sh curve e qs vs)
+  module _ (curve : Curve) (more : List ℤ) where
+    refused : rebuildable sh e qs vs ≡ false → (false ≡ rebuildable sh e qs vs) × (vs ≡ rebuilding sh curve e more qs vs)
     refused h = (sym h, unfold rebuilding in (rw h))
 
-    -- from the shape as it is laid
-    done : {laid-sh : Shape} {ws : List ℤ} → rebuildable sh e qs vs ≡ true → laid-sh ≡ laid sh → ws ≡ rebuilt (layering laid-sh curve) e qs
-        → (true ≡ rebuildable sh e qs vs) × (ws ≡ rebuilding sh curve e qs vs)
-    done h l w = (sym h, unfold rebuilding in (rw (w, l, h) (laid-rebuilt sh curve e qs)))
+    done : {ws : List ℤ} → rebuildable sh e qs vs ≡ true → ws ≡ rebuilt (layering sh curve) e (counted sh (at more) qs)
+        → (true ≡ rebuildable sh e qs vs) × (ws ≡ rebuilding sh curve e more qs vs)
+    done h w = (sym h, unfold rebuilding in (rw (w, h)))
 
 settled-requires : tie.Need-settled-requires
 settled-requires c κs = search needs
@@ -59,7 +56,7 @@ returns c =
     let a = c .before .before in
     let qs = now (a .args .coefficients) in
     let vs = now (a .args .values) in
-    refused (a .args .shape) (a .args .step) qs vs (a .args .curve)
+    refused (a .args .shape) (a .args .step) qs vs (a .args .curve) (now (a .args .more))
     (no-shape (a .args .shape) (a .args .step) qs vs (sym (c .before .settled .ensures) ∙ not-true (c .before .settled .result) (c .if1 .taken)))
 
 -- where the shape and the step are accepted
@@ -85,7 +82,7 @@ returns-2 c =
     let a = A (n .before) in
     let qs = now (a .args .coefficients) in
     let vs = now (a .args .values) in
-    refused (a .args .shape) (a .args .step) qs vs (a .args .curve) (no-coefficients (a .args .shape) (a .args .step) qs vs (λ e. c .if2 .taken (e ∙ sym (long n))))
+    refused (a .args .shape) (a .args .step) qs vs (a .args .curve) (now (a .args .more)) (no-coefficients (a .args .shape) (a .args .step) qs vs (λ e. c .if2 .taken (e ∙ sym (long n))))
 
 returns-3 : tie.Need-returns-3
 returns-3 c =
@@ -93,34 +90,27 @@ returns-3 c =
     let a = A (n .before) in
     let qs = now (a .args .coefficients) in
     let vs = now (a .args .values) in
-    refused (a .args .shape) (a .args .step) qs vs (a .args .curve) (no-values (a .args .shape) (a .args .step) qs vs (λ e. c .if3 .taken (e ∙ sym (long n))))
-
-laid-requires : tie.Need-laid-requires
-laid-requires c κs = search needs
+    refused (a .args .shape) (a .args .step) qs vs (a .args .curve) (now (a .args .more)) (no-values (a .args .shape) (a .args .step) qs vs (λ e. c .if3 .taken (e ∙ sym (long n))))
 
 rebuild-layers-requires : tie.Need-rebuild-layers-requires
 rebuild-layers-requires c κs =
-    let l = c .before in
-    let e = l .before in
+    let e = c .before in
     let n = e .before .before in
-    let s = n .before in
-    let sh = A s .args .shape in
-    rw (l .laid .ensures, laid-points sh) ((laid-accepted sh (ok s .0), ok s .1), (e .before .if2 .left ∙ long n, e .if3 .left ∙ long n))
+    (ok (n .before), (e .before .if2 .left ∙ long n, e .if3 .left ∙ long n))
 
 same-length : tie.Need-same-length
 same-length c = search needs
 
 returns-4 : tie.Need-returns-4
 returns-4 c =
-    let l = c .before .before .before in
-    let e = l .before in
+    let e = c .before .before .before in
     let n = e .before .before in
     let s = n .before in
     let a = A s in
     let qs = now (a .args .coefficients) in
     let vs = now (a .args .values) in
-    done (a .args .shape) (a .args .step) qs vs (a .args .curve)
-    (all-there (a .args .shape) (a .args .step) qs vs (yes s) (e .before .if2 .left ∙ long n) (e .if3 .left ∙ long n)) (l .laid .ensures) (c .before .rebuild-layers .ensures)
+    done (a .args .shape) (a .args .step) qs vs (a .args .curve) (now (a .args .more))
+    (all-there (a .args .shape) (a .args .step) qs vs (yes s) (e .before .if2 .left ∙ long n) (e .if3 .left ∙ long n)) (c .before .rebuild-layers .ensures)
 
 pub rebuild-spec : {M : Type 1} → statement M
 rebuild-spec =
@@ -131,7 +121,6 @@ rebuild-spec =
     points-requires
     returns-2
     returns-3
-    laid-requires
     rebuild-layers-requires
     same-length
     returns-4)

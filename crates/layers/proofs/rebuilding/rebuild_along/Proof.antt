@@ -4,18 +4,21 @@ use mathlib.Core.List.{List}
 use Prim.Native.Nat.{ℕ, _+_, _-_, _*_, _%_, _<_}
 use native.Mathlib.Nat.{mod-eq-of-lt, add-mod-right}
 use native.Mathlib.Omega.{arith}
-use lib.IntN.{ℤ, pos}
+use lib.IntN.{ℤ, pos, _+ℤ_}
 use mir.Facts.{toZ-ofZ}
+use mir.Syntax.{w32}
+use mir.Val.{toZ, ofZ}
 use denote.Ref.{now}
 use borrow.Author.Needs.{sfits-of}
 use Rattle.integers.specs.Distance.{Within}
 use Rattle.sheet.specs.declared.Shape.{Shape}
 use Rattle.sheet.specs.declared.Curve.{Curve}
 use Rattle.sheet.specs.declared.Grid.{Grid}
-use Rattle.sheet.specs.Sheet.{points, layers, direction, spacing, inLayer}
+use Rattle.sheet.specs.Lists.{at}
+use Rattle.sheet.specs.Sheet.{points, place, layers, direction, spacing, inLayer}
 use Rattle.layers.specs.Prediction.{line, predicted, rebuiltFrom}
-use Rattle.layers.specs.Layering.{layering, reads as readsBy}
-use Rattle.layers.specs.Workings.Loops.{valueMost, Below, inRow, AtRow, partBy}
+use Rattle.layers.specs.Layering.{layering}
+use Rattle.layers.specs.Workings.Loops.{valueMost, Below, inRow, AtRow, partBy, readsWith}
 use Rattle.layers.proofs.AtPoint.{AtPoint}
 use Rattle.sheet.proofs.Accepting.{accepted-yes}
 use Rattle.sheet.proofs.Fits.{Held, held, cols-small}
@@ -31,12 +34,12 @@ use Rattle.layers.proofs.rebuilding.rebuild_along.Statement.{statement}
 use Rattle.layers.proofs.rebuilding.rebuild_along.Tie as tie
 
 abbrev Inv-loop : tie.InvT-loop
-Inv-loop coefficients shape curve step g sheet row values₀ cols s col₀ values col =
+Inv-loop coefficients shape curve step more g sheet row values₀ cols s col₀ values col =
     (col % g .right ≡ g .col)
-    × PartSwept (inRow shape (sheet * shape .rows + row)) (inPlace (layering shape curve) (g .layer) (readsBy step coefficients)) values₀ (rowReach shape sheet row col) values
+    × PartSwept (inRow shape (sheet * shape .rows + row)) (inPlace (layering shape curve) (g .layer) (readsWith (toZ w32 more) step coefficients)) values₀ (rowReach shape sheet row col) values
 
 abbrev μ-loop : tie.MeasureT-loop
-μ-loop coefficients shape curve step g sheet row values₀ cols s col₀ values col = cols - col
+μ-loop coefficients shape curve step more g sheet row values₀ cols s col₀ values col = cols - col
 
 abbrev A : Type 0
 A = tie.Start Inv-loop μ-loop
@@ -62,8 +65,15 @@ R a = a .args .row
 abbrev Vs : A → List ℤ
 Vs a = now (a .args .values)
 
+-- what is added, as the loop has it
+abbrev More : A → ℤ
+More a = toZ w32 (ofZ w32 (a .args .more))
+
+more-is : (a : A) → More a ≡ a .args .more
+more-is a = toZ-ofZ (a .fits .more)
+
 abbrev F : A → ℤ → ℕ → ℤ
-F a = readsBy (a .args .step) (now (a .args .coefficients))
+F a = readsWith (More a) (a .args .step) (now (a .args .coefficients))
 
 row : (a : A) → AtRow (Sh a) (K a) (G a) (Z a) (R a)
 row a = a .pre .0 .0
@@ -132,14 +142,14 @@ predict-along-requires c κs =
 is-predicted : (i : I) → (let a = S i in line (Cv a) (Now i) ((Z a * Sh a .rows + R a) * Sh a .cols) 1 (Sh a .cols) (Col i) (G a .spacing) ≡ Pr i)
 is-predicted i = row-predicted (point i) (Cv (S i)) (Now i) (S i .pre .0 .2)
 
-mul-value : tie.Need-mul-value Inv-loop μ-loop
-mul-value c = omega (arith, point-spot (spot (c .before .before)))
+mul-value-with : tie.Need-mul-value-with Inv-loop μ-loop
+mul-value-with c = omega (arith, point-spot (spot (c .before .before)))
 
-shared-slice-copy-out-value : tie.Need-shared-slice-copy-out-value Inv-loop μ-loop
-shared-slice-copy-out-value c = let i = c .before .before in omega (arith, point-spot (spot i), S i .pre .1 .0)
+shared-slice-copy-out-value-with : tie.Need-shared-slice-copy-out-value-with Inv-loop μ-loop
+shared-slice-copy-out-value-with c = let i = c .before .before in omega (arith, point-spot (spot i), S i .pre .1 .0)
 
-value-requires : tie.Need-value-requires Inv-loop μ-loop
-value-requires c κs =
+value-with-requires : tie.Need-value-with-requires Inv-loop μ-loop
+value-with-requires c κs =
     let i = c .before .before .before in
     (result-within {y = Pr i} (c .before .predict-along .ok) (c .before .predict-along .ensures ∙ is-predicted i) (near i), S i .pre .0 .1)
 
@@ -169,10 +179,11 @@ loop-again c =
     let a = S i in
     let x = Col i in
     let y-is = result-is {y = Pr i} (y .predict-along .ok) (y .predict-along .ensures ∙ is-predicted i) in
-    let q-is = toZ-ofZ (sfits-of (d .before .value-arg .given)) in (
+    let q = at (now (a .args .coefficients)) (place (Sh a) (Z a) (R a) x) in
+    let q-is : toZ w32 (ofZ w32 q) ≡ q = toZ-ofZ (sfits-of (d .before .value-with-arg .given)) in (
       add-mod-right x (G a .right) ∙ i .before .loop .inv .0,
       row-step (row a) (local a) x (i .loop-test .taken) (i .before .loop .inv .0) (a .pre .1 .1) _
-          (toZ-ofZ (sfits-of (d .value .ok)) ∙ d .value .ensures ∙ ap₂ (λ (p q : ℤ). rebuiltFrom p q (a .args .step)) y-is q-is
+          (toZ-ofZ (sfits-of (d .value-with .ok)) ∙ d .value-with .ensures ∙ ap₂ (λ (p q : ℤ). rebuiltFrom p (q +ℤ More a) (a .args .step)) y-is q-is
           ∙ sym (point-here (spot i) (Cv a) (F a) (Now i) (Now i)))
           (i .before .loop .inv .1),
     )
@@ -182,7 +193,8 @@ same-length c = c .before .loop .inv .1 .same
 
 returns : tie.Need-returns Inv-loop μ-loop
 unfolding partBy
-returns c = let l = c .before in let a = l .before in row-end (row a) (local a) (l .loop .col) (c .loop-test .left) (l .loop .inv .1)
+returns c = let l = c .before in let a = l .before in
+    rw (more-is a) at (row-end (row a) (local a) (l .loop .col) (c .loop-test .left) (l .loop .inv .1))
 
 pub rebuild-along-spec : {M : Type 1} → statement M
 rebuild-along-spec =
@@ -196,9 +208,9 @@ rebuild-along-spec =
     mul-start-2
     add-p
     predict-along-requires
-    mul-value
-    shared-slice-copy-out-value
-    value-requires
+    mul-value-with
+    shared-slice-copy-out-value-with
+    value-with-requires
     mul-v
     slice-set-from-v
     add-col

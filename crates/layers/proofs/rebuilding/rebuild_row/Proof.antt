@@ -1,5 +1,6 @@
 -- Each arm knows its direction, and is then the call's own promise.
 use mathlib.Core.Path.{ap}
+use mir.Facts.{toZ-ofZ}
 use borrow.Author.Needs.{needs}
 use Rattle.layers.specs.Workings.Loops.{crosses}
 use Rattle.layers.proofs.rebuilding.rebuild_row.Statement.{statement}
@@ -33,25 +34,25 @@ same-length : tie.Need-same-length
 same-length c = search needs
 
 returns : tie.Need-returns
-returns c = c .before .rebuild-anchors .ensures (c .before .before .before .before .before .args .curve)
+returns c = let a = c .before .before .before .before .before in rw (toZ-ofZ (a .fits .more)) at (c .before .rebuild-anchors .ensures (a .args .curve))
 
 same-length-2 : tie.Need-same-length-2
 same-length-2 c = search needs
 
 returns-2 : tie.Need-returns-2
-returns-2 c = search needs
+returns-2 c = rw (toZ-ofZ (c .before .before .before .before .before .fits .more)) at (c .before .rebuild-along .ensures)
 
 same-length-3 : tie.Need-same-length-3
 same-length-3 c = search needs
 
 returns-3 : tie.Need-returns-3
-returns-3 c = search needs
+returns-3 c = rw (toZ-ofZ (c .before .before .before .before .before .fits .more)) at (c .before .rebuild-crossed .ensures)
 
 same-length-4 : tie.Need-same-length-4
 same-length-4 c = search needs
 
 returns-4 : tie.Need-returns-4
-returns-4 c = search needs
+returns-4 c = rw (toZ-ofZ (c .before .before .before .before .before .fits .more)) at (c .before .rebuild-crossed2 .ensures)
 
 pub rebuild-row-spec : {M : Type 1} → statement M
 rebuild-row-spec =

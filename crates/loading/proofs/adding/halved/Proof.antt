@@ -9,7 +9,7 @@ use Rattle.loading.proofs.adding.halved.Statement.{statement}
 use Rattle.loading.proofs.adding.halved.Tie as tie
 
 abbrev Inv-loop : tie.InvT-loop
-Inv-loop table next₀ i₀ next i = (i ≤ halfBits) × Filled (λ k. getD table k 0 / 2) halfBits i next
+Inv-loop table next₀ i₀ next i = (i ≤ halfBits) × Filled 0 (λ k. getD table k 0 / 2) halfBits i next
 
 abbrev μ-loop : tie.MeasureT-loop
 μ-loop table next₀ i₀ next i = halfBits - i

@@ -9,7 +9,7 @@ use Rattle.loading.proofs.adding.halves.Statement.{statement}
 use Rattle.loading.proofs.adding.halves.Tie as tie
 
 abbrev Inv-loop : tie.InvT-loop
-Inv-loop p table₀ i₀ table i = (i ≤ halfBits) × Filled (halfBit p) halfBits i table
+Inv-loop p table₀ i₀ table i = (i ≤ halfBits) × Filled 0 (halfBit p) halfBits i table
 
 abbrev μ-loop : tie.MeasureT-loop
 μ-loop p table₀ i₀ table i = halfBits - i

@@ -10,7 +10,8 @@ use denote.Ref.{now}
 use lib.IntN.{ℤ}
 use lib.ListN.{length}
 use Rattle.sheet.specs.Limits.{layersMost}
-use Rattle.sheet.specs.Sheet.{layerSize}
+use Rattle.sheet.specs.Sheet.{points, layerSize}
+use Rattle.sheet.proofs.Accepting.{accepted-yes}
 use Rattle.header.specs.Header.{placesMost, cellBytes, planeCells}
 use Rattle.header.specs.Workings.{cellsMost, planeCellsMost}
 use Rattle.order.specs.CardOrder.{cellsBefore}
@@ -40,6 +41,9 @@ right s = right-yes (s .args .header) (loadable-right (Qs s) (Bs s) (s .args .he
 
 here : (s : tie.Start) → s .args .at ≤ length (Bs s)
 here s = loadable-here (Qs s) (Bs s) (s .args .header) (s .args .at) (s .pre .0)
+
+long : (s : tie.Start) → length (Qs s) ≡ points (s .args .header .shape)
+long s = full-long (s .args .header .shape) (Qs s) (loadable-full (Qs s) (Bs s) (s .args .header) (s .args .at) (s .pre .0))
 
 layer-low : (s : tie.Start) → s .args .layer < layersMost
 layer-low s = omega (arith, s .pre .1, layers-few (right s))
@@ -125,7 +129,9 @@ returns c =
     (omega (arith, c .if1 .taken, before-at z, cells z, here s))
 
 all-held-requires : tie.Need-all-held-requires
-all-held-requires c κs = search needs
+all-held-requires c κs =
+    let s = S (c .before .before) in
+    omega (arith, long s, accepted-yes (s .args .header .shape) (right s .shape) .small)
 
 same-length : tie.Need-same-length
 same-length c = search needs
@@ -177,7 +183,7 @@ add-digits-requires c κs =
     let s = S z in (
       (right s .shape, s .pre .1, place-low s),
       (
-        full-long (s .args .header .shape) (Qs s) (loadable-full (Qs s) (Bs s) (s .args .header) (s .args .at) (s .pre .0)),
+        long s,
         held d,
         omega (arith, E d .if1 .left, cells z),
       ),

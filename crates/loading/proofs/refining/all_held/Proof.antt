@@ -1,64 +1,62 @@
--- The loop's invariant: every coefficient before the cursor is held. Where one is not, the test fails at it; behind the loop it passes at each.
-use mathlib.Core.Path.{_≡_, refl, sym}
-use mathlib.Core.Bool.{true}
+-- The loop counts the coefficients that are not held; all are where none is counted.
+use mathlib.Core.Path.{_≡_, refl, sym, ap, ap₂, _∙_}
+use mathlib.Core.Bool.{Bool, true, true≢false, cond, not}
 use mathlib.Core.List.{List}
-use Prim.Native.Nat.{ℕ, _-_, _<_}
-use native.Mathlib.Decide.{ℕ-discrete}
+use Prim.Native.Nat.{ℕ, suc, _+_, _-_, _≤_}
 use native.Mathlib.Omega.{arith}
+use lib.Dec.{eqb}
 use lib.IntN.{ℤ}
 use lib.ListN.{length}
 use denote.Ref.{now}
-use mir.Syntax.{w32}
-use mir.Val.{toZ, ofZ}
-use Rattle.integers.proofs.Bools.{not-yes}
-use Rattle.integers.proofs.Diff.{Diff, lit, neg-lit}
-use Rattle.integers.proofs.Machine.{told, lt-test, not-lt-test}
+use mir.Facts.{toZ-ofZ}
+use borrow.Author.Needs.{needs, sfits-of}
+use borrow.Author.Tests.{eq-eqb, ne-eqb, not-false}
 use Rattle.digits.specs.Digits.{holds}
-use Rattle.digits.proofs.Range.{range-23, holds-yes, holds-by}
-use Rattle.sheet.specs.Lists.{at}
+use Rattle.sheet.specs.Lists.{at, count}
+use Rattle.sheet.proofs.Lists.{mark-most, count-on, count-most, count-none, count-never}
 use Rattle.header.specs.Header.{placesMost}
 use Rattle.packing.specs.Planes.{allHeld}
-use Rattle.packing.proofs.All.{all-by, all-no}
+use Rattle.packing.proofs.All.{all-by, all-at}
+use Rattle.integers.proofs.Bools.{by}
 use Rattle.loading.proofs.refining.all_held.Statement.{statement}
 use Rattle.loading.proofs.refining.all_held.Tie as tie
 
+-- is the coefficient at place p not held?
+abbrev out : List ℤ → ℕ → Bool
+out qs p = not (holds placesMost (at qs p))
+
 abbrev Inv-loop : tie.InvT-loop
-Inv-loop coefficients j₀ j-end j = (j-end ≡ length coefficients) × ((i : ℕ) → i < j → holds placesMost (at coefficients i) ≡ true)
+Inv-loop coefficients number₀ j₀ j-end number j = (j-end ≡ length coefficients) × (j ≤ j-end) × (number ≡ count (out coefficients) j)
 
 abbrev μ-loop : tie.MeasureT-loop
-μ-loop coefficients j₀ j-end j = j-end - j
+μ-loop coefficients number₀ j₀ j-end number j = j-end - j
 
 loop-holds : tie.Need-loop-holds Inv-loop μ-loop
-loop-holds c = (refl, λ i h. absurd (let z : ⊥ = omega arith in z))
+unfolding count
+loop-holds c = (refl, omega arith, refl)
 
-mul-q : tie.Need-mul-q Inv-loop μ-loop
-mul-q c = omega (arith, c .before .before .good, c .loop-test .taken)
+mul-outside : tie.Need-mul-outside Inv-loop μ-loop
+mul-outside c = search needs
 
-shared-slice-copy-out-q : tie.Need-shared-slice-copy-out-q Inv-loop μ-loop
-shared-slice-copy-out-q c = c .loop-test .taken
+shared-slice-copy-out-outside : tie.Need-shared-slice-copy-out-outside Inv-loop μ-loop
+shared-slice-copy-out-outside c = search needs
 
-abbrev Qs : tie.After-q Inv-loop μ-loop → List ℤ
-Qs c = now (c .before .before .before .args .coefficients)
+outside-requires : tie.Need-outside-requires Inv-loop μ-loop
+outside-requires c κs = search needs
 
-abbrev J : tie.After-q Inv-loop μ-loop → ℕ
-J c = c .before .before .loop .j
+abbrev Qs : tie.After-outside Inv-loop μ-loop → List ℤ
+Qs c = now (c .before .before .before .before .args .coefficients)
 
-abbrev X : (c : tie.After-q Inv-loop μ-loop) → Diff (toZ w32 (ofZ w32 (at (Qs c) (J c))))
-X c = told w32 (at (Qs c) (J c)) (c .q .given)
+abbrev J : tie.After-outside Inv-loop μ-loop → ℕ
+J c = c .before .before .before .loop .j
 
-returns : tie.Need-returns Inv-loop μ-loop
-unfolding allHeld
-returns c =
-    let q = c .before in
-    sym (all-no (λ j. holds placesMost (at (Qs q) j)) (length (Qs q)) (J q) (q .before .loop-test .taken)
-    (not-yes _ (λ y. omega (arith, lt-test (X q) (neg-lit 2796201) (c .if1 .taken), holds-yes placesMost (at (Qs q) (J q)) y, range-23))))
+mark-is : (c : tie.After-outside Inv-loop μ-loop) → c .outside .result ≡ cond (out (Qs c) (J c)) 1 0
+mark-is c = c .outside .ensures ∙ ap (λ (q : ℤ). cond (not (holds placesMost q)) 1 0) (toZ-ofZ (sfits-of (c .before .outside-arg .given)))
 
-returns-2 : tie.Need-returns-2 Inv-loop μ-loop
-unfolding allHeld
-returns-2 c =
-    let q = c .before .before in
-    sym (all-no (λ j. holds placesMost (at (Qs q) j)) (length (Qs q)) (J q) (q .before .loop-test .taken)
-    (not-yes _ (λ y. omega (arith, lt-test (lit 5592405) (X q) (c .if2 .taken), holds-yes placesMost (at (Qs q) (J q)) y, range-23))))
+add-number : tie.Need-add-number Inv-loop μ-loop
+add-number c =
+    let l = c .before .before .before in
+    omega (arith, mark-is c, mark-most (out (Qs c)) (J c), l .loop .inv .2, count-most (out (Qs c)) (J c), l .before .pre)
 
 add-j : tie.Need-add-j Inv-loop μ-loop
 add-j c = omega arith
@@ -68,20 +66,33 @@ loop-less c = omega arith
 
 loop-again : tie.Need-loop-again Inv-loop μ-loop
 loop-again c =
-    let q = c .before .before in (
+    let j = J c in (
       refl,
-      λ i h.
-          elim (ℕ-discrete i (J q)) [
-            | yes e ↦ rw e (holds-by placesMost (at (Qs q) (J q)) (omega (arith, not-lt-test (X q) (neg-lit 2796201) (c .before .if1 .left), not-lt-test (lit 5592405) (X q) (c .if2 .left), range-23)))
-            | no n ↦ q .before .before .loop .inv .1 i (omega arith)
-          ],
+      omega arith,
+      ap₂ (λ (m n : ℕ). m + n) (c .before .before .before .loop .inv .2) (mark-is c) ∙ count-on (out (Qs c)) j ∙ ap (count (out (Qs c))) (let z : suc j ≡ j + 1 = omega arith in z),
     )
 
-returns-3 : tie.Need-returns-3 Inv-loop μ-loop
-unfolding allHeld
-returns-3 c =
-    let qs = now (c .before .before .args .coefficients) in
-    sym (all-by (λ j. holds placesMost (at qs j)) (length qs) (λ i h. c .before .loop .inv .1 i (omega (arith, c .loop-test .left))))
+-- none counted, and all held
+module _ (qs : List ℤ) where
+  held-where : count (out qs) (length qs) ≡ 0 → allHeld qs ≡ true
+  unfolding allHeld
+  held-where e = all-by (λ j. holds placesMost (at qs j)) (length qs) (λ p h. not-false _ (count-none (out qs) (length qs) e p h))
+
+  where-held : allHeld qs ≡ true → count (out qs) (length qs) ≡ 0
+  unfolding allHeld
+  where-held e = count-never (out qs) (length qs) (λ p h. ap not (all-at (λ j. holds placesMost (at qs j)) (length qs) e p h))
+
+  none-counted : eqb (count (out qs) (length qs)) 0 ≡ allHeld qs
+  none-counted =
+      by (allHeld qs)
+      (λ y. rw y (eq-eqb _ 0 (where-held y)))
+      (λ n. rw n (ne-eqb _ 0 (λ e. true≢false (sym (held-where e) ∙ n))))
+
+returns : tie.Need-returns Inv-loop μ-loop
+returns c =
+    let l = c .before in
+    let qs = now (l .before .args .coefficients) in
+    ap (λ (n : ℕ). eqb n 0) (l .loop .inv .2 ∙ ap (count (out qs)) (omega (arith, l .loop .inv .0, l .loop .inv .1, c .loop-test .left))) ∙ none-counted qs
 
 pub all-held-spec : {M : Type 1} → statement M
 all-held-spec =
@@ -90,11 +101,11 @@ all-held-spec =
     Inv-loop
     μ-loop
     loop-holds
-    mul-q
-    shared-slice-copy-out-q
-    returns
-    returns-2
+    mul-outside
+    shared-slice-copy-out-outside
+    outside-requires
+    add-number
     add-j
     loop-less
     loop-again
-    returns-3)
+    returns)

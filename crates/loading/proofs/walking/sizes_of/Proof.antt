@@ -9,7 +9,7 @@ use Rattle.loading.proofs.walking.sizes_of.Statement.{statement}
 use Rattle.loading.proofs.walking.sizes_of.Tie as tie
 
 abbrev Inv-loop : tie.InvT-loop
-Inv-loop shape sizes₀ k₀ sizes k = (k ≤ layersMost) × Filled (sizeAt shape) layersMost k sizes
+Inv-loop shape sizes₀ k₀ sizes k = (k ≤ layersMost) × Filled 0 (sizeAt shape) layersMost k sizes
 
 abbrev μ-loop : tie.MeasureT-loop
 μ-loop shape sizes₀ k₀ sizes k = layersMost - k

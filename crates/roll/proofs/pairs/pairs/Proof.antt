@@ -8,7 +8,7 @@ use Rattle.roll.proofs.pairs.pairs.Statement.{statement}
 use Rattle.roll.proofs.pairs.pairs.Tie as tie
 
 abbrev Inv-loop : tie.InvT-loop
-Inv-loop table₀ j₀ table j = (j ≤ pairCharacters) × Filled pairCharacter pairCharacters j table
+Inv-loop table₀ j₀ table j = (j ≤ pairCharacters) × Filled 0 pairCharacter pairCharacters j table
 
 abbrev μ-loop : tie.MeasureT-loop
 μ-loop table₀ j₀ table j = pairCharacters - j
