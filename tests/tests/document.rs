@@ -383,11 +383,10 @@ fn the_roll() {
 }
 
 /// What a value can come to: each layer carries what stands before it, as the figure does where none is
-/// narrow, and adds a coefficient times the width. Where its lowest digits count as their middle, that is between
-/// the ends of what they can be, so it stays in the range of all its digits.
+/// narrow, and adds a coefficient and a middle times the width. A middle is one of the numbers that its digits
+/// can be, so it is no larger than the largest coefficient.
 #[test]
 fn the_places_of_the_roll_are_enough() {
-    // A middle is one of the numbers of its digits.
     for d in 0..=MOST_DIGITS {
         assert!((low(d)..=high(d)).contains(&middle(d)));
     }

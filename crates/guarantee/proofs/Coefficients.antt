@@ -49,7 +49,7 @@ module _ (h : Header) (long : ℕ) (bs : List ℕ) where
     unfolding bitAt
     binary-bits = binary-tabulate (planesOf h k) _ (λ p. omega arith)
 
-    -- missing digits count as 0
+    -- missing digits are 0 in it
     pub coef-is : (plan : ℕ → ℕ) → coefRead h long bs plan k i ≡ value (truncate (planesOf h k - plan k) bits)
     unfolding coefRead
     coef-is plan =

@@ -3,6 +3,7 @@
 -- have the same values, by induction on the levels. It holds whatever the depth, and of shapes that are not accepted too.
 --     Same              two layerings have the same after so many layers; it goes on over layers that are alike, and over empty ones on either side
 --     laid-points, laid-accepted, laid-samples     the numbers of a shape as it is laid
+--     laid-lands        in which layer of the shape the points of a layer as it is laid stand
 --     laid-rebuilt, laid-written, laid-coefs       it comes to the same values and coefficients
 use mathlib.Core.Path.{_≡_, refl, sym, ap, subst, _∙_}
 use mathlib.Core.Bool.{Bool, true, false, true≢false, _&&_}

@@ -59,7 +59,7 @@ module _ (h : Header) (long : ℕ) (bs : List ℕ) where
     unfoldable pub firstBad : ℕ
     firstBad = firstFrom badSlot (slots h) 0
 
-    -- the coefficient of point i of layer k: digits that are not loaded count as 0
+    -- the coefficient of point i of layer k, of plain digits: those that are not loaded are 0 in it
     unfoldable pub coefRead : ℕ → ℕ → ℤ
     coefRead k i = value (tabulate (planesOf h k) (λ p. cond (loaded h plan k p) (bitOf k p i) 0))
 
