@@ -4,22 +4,22 @@ use mathlib.Core.List.{List}
 use mathlib.Core.Path.{_≡_, refl, ap, sym, _∙_}
 use Prim.Native.Nat.{ℕ, suc, _+_, _-_, _*_, _<_, _≤_}
 use native.Mathlib.Decide.{decLt, ℕ-discrete}
-use native.Mathlib.Nat.{mul-zero, le-refl}
+use native.Mathlib.Nat.{mul-zero, mul-le-mul, le-refl}
 use native.Mathlib.Numerals.{add-one}
 use native.Mathlib.Omega.{arith}
-use borrow.Author.Tests.{lt-ltb, le-ltb}
+use borrow.Author.Tests.{lt-leb, lt-ltb, le-ltb}
 use lib.Dec.{leb, ltb}
 use lib.ListN.{getD, set, replicate, length-set}
 use lib.Seq.{getD-set-same, getD-set-other}
 use Rattle.sheet.specs.Limits.{layersMost}
 use Rattle.sheet.specs.Lists.{total, count}
 use Rattle.integers.proofs.Bools.{by}
-use Rattle.sheet.proofs.Lists.{count-yes, count-no, count-most, getD-zeros}
+use Rattle.sheet.proofs.Lists.{count-yes, count-no, count-most, count-never, getD-zeros}
 use Rattle.header.specs.Header.{placesMost}
 use Rattle.header.specs.Workings.{planeCellsMost}
 use Rattle.order.specs.CardOrder.{planesBefore}
 use Rattle.order.specs.Workings.{cellsThrough, within, Walked}
-use Rattle.header.proofs.Totals.{total-none}
+use Rattle.header.proofs.Totals.{total-le, total-none}
 use Rattle.order.proofs.CardOrder.{before-passed, before-coming, before-other, before-none, before-place, sum-layer, sum-none, sum-place}
 use Rattle.order.proofs.Through.{Small, share, shares-most}
 
@@ -94,9 +94,9 @@ module _ {spans planes : List ℕ} {room : ℕ} where
         rest = λ j l. rw (before-place planes p layersMost j l) (w .rest j l);
       }
 
-  -- before the first place nothing is passed
-  pub walk-first : Small spans planes → {p : ℕ} → placesMost ≤ p → Walked spans planes room layersMost p (replicate layersMost 0) 0
-  walk-first small {p} top =
+  -- from a place that no layer has planes at or above nothing is passed
+  pub walk-first : {p : ℕ} → ((j : ℕ) → j < layersMost → getD planes j 0 ≤ p) → Walked spans planes room layersMost p (replicate layersMost 0) 0
+  walk-first {p} top =
       record {
         long = refl;
         sum = sym (total-none _ layersMost (λ j l. rw (none j l) (mul-zero (getD spans j 0))));
@@ -106,7 +106,7 @@ module _ {spans planes : List ℕ} {room : ℕ} where
       }
     where
       none : (j : ℕ) → j < layersMost → planesBefore planes layersMost p j ≡ 0
-      none j l = omega (arith, before-passed planes p layersMost j l, small j .1)
+      none j l = omega (arith, before-passed planes p layersMost j l, top j l)
 
   -- and behind the last nothing is left
   pub walk-last : {found : List ℕ} {cells : ℕ} → Walked spans planes room layersMost 0 found cells → (j : ℕ) → j < layersMost → getD found j 0 ≡ count (within spans planes room j) (getD planes j 0)
@@ -115,3 +115,20 @@ module _ {spans planes : List ℕ} {room : ℕ} where
       let none : getD planes j 0 - planesBefore planes layersMost 0 j ≡ 0 = omega (arith, before-passed planes 0 layersMost j l) in
       let all : getD found j 0 + count (within spans planes room j) 0 ≡ count (within spans planes room j) (getD planes j 0) = rw none at (w .rest j l) in
       omega arith
+
+  -- nor does anything that is still to come end within the room, once more cells are passed
+  pub walk-over : {p : ℕ} {found : List ℕ} {cells : ℕ} → Walked spans planes room layersMost p found cells → room < cells
+      → (j : ℕ) → j < layersMost → getD found j 0 ≡ count (within spans planes room j) (getD planes j 0)
+  unfolding cellsThrough
+  walk-over {p} w over j l =
+      let none = count-never (within spans planes room j) (getD planes j 0 - planesBefore planes layersMost p j) (λ q h. lt-leb _ room (omega (arith, w .sum, further q (omega (arith, before-passed planes p layersMost j l))))) in
+      omega (arith, none, w .rest j l)
+    where
+      -- a place below has every plane before it that was passed
+      further : (q : ℕ) → q < p → total (share spans planes layersMost p) layersMost ≤ total (share spans planes j q) layersMost
+      further q h =
+          total-le (share spans planes layersMost p) (share spans planes j q) layersMost (λ i hi.
+          mul-le-mul (le-refl (getD spans i 0)) (elim (decLt i j) [
+            | yes m ↦ omega (arith, before-passed planes p layersMost i hi, before-passed planes q j i m)
+            | no m ↦ omega (arith, before-passed planes p layersMost i hi, before-coming planes q j i (omega arith))
+          ]))

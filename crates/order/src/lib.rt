@@ -10,7 +10,6 @@ ghost use Rattle.header.specs.Workings as W;
 ghost use Rattle.order.specs.Workings as Wk;
 use header::CELL_BYTES;
 use header::Header;
-use header::MOST_PLACES;
 use header::Plan;
 use sheet::MOST_LAYERS;
 
@@ -97,8 +96,25 @@ fn whole_at(
     Found { planes, cells }
 }
 
+fn larger(a: u64, b: u64) -> u64
+    ensures { λ r. ⌜ (a ≤ r) × (b ≤ r) ⌝ }
+{
+    if a < b { b } else { a }
+}
+
+// A place that no layer has planes at or above: the largest count.
+fn top_of(counts: [u64; MOST_LAYERS]) -> u64
+    ensures { λ r. ⌜ ((j : ℕ) → j < layersMost → getD counts j 0 ≤ r) ⌝ }
+{
+    let mut top = 0u64;
+    for k in 0..MOST_LAYERS {
+        top = larger(top, counts[k]);
+    }
+    top
+}
+
 // The planes that are whole in n bytes behind a header that opening can give; none behind any other.
-// One walk in card order finds them all.
+// Where all cells are there they are all the planes; otherwise one walk in card order finds them, from the top place on as far as the room goes.
 pub fn whole_planes(header: Header, n: usize) -> Plan
     ensures { λ r. ⌜ r ≡ Wk.wholeIn header n ⌝ }
 {
@@ -106,12 +122,19 @@ pub fn whole_planes(header: Header, n: usize) -> Plan
     if !header::is_well_formed(header) {
         return Plan { planes };
     }
-    let spans = header.spans();
     let counts = header.planes;
     let room = (n / CELL_BYTES) as u64;
+    if header.cells <= room {
+        return Plan { planes: counts };
+    }
+    let spans = header.spans();
     let mut found = Found { planes, cells: 0 };
-    let mut p = MOST_PLACES;
+    let mut p = top_of(counts);
     while 0 < p {
+        if room < found.cells {
+            let whole = found.planes;
+            return Plan { planes: whole };
+        }
         p -= 1;
         found = whole_at(spans, counts, p, room, found);
     }
