@@ -2,7 +2,7 @@
  *
  * Every function returns the refusal's number, 0 where the call is accepted. A slice is a pointer to so many elements, then their number; the pointer
  * has to be valid for them (and not null, even of none), and slices that a call writes to must not overlap others. Coefficients and values have rows x cols elements each, or the call
- * is refused (3). A refused call leaves the caller's coefficients, values, output, page and apart as they were. answer is the call's report, which a refused call
+ * is refused (3). A refused call leaves the caller's coefficients, values, next, output, page and apart as they were. answer is the call's report, which a refused call
  * fills too, except where answer or plan has a wrong length: then nothing at all is written.
  *
  * answer has 24 numbers: [0] the refusal's number, [1] and [2] its details, [3] the card's length (write) or the plan's cells (planning),
@@ -12,7 +12,7 @@
  *
  * curve is 0 for linear and 1 for cubic; any other number is refusal 2. plan has 13 numbers: the planes loaded from the top of each layer, 0 past
  * the last. Refusals: 1 a size, 2 levels, curve or step, 3 a slice's length, 4 a sample out of range (row, column), 5 the header is cut, 6 a wrong
- * line (which), 7 bytes follow the last cell, 8 a plane that cannot be (layer), 9 a plan that asks too much (place; in refine also the layer), 10 a limit below the
+ * line (which), 7 bytes follow the last cell, 8 a plane that cannot be (layer), 9 a plan that asks too much (place; in refine and preview also the layer), 10 a limit below the
  * step, 11 a coefficient out of range, 12 a page too short, 13 the sizes of two cards differ.
  */
 #ifndef TRACE_CARD_H
@@ -89,6 +89,12 @@ uint64_t trace_card_compare(const uint8_t *first, size_t first_length, const uin
 /* Adds the next plane of a layer to a reading with a plan. */
 uint64_t trace_card_refine(const uint8_t *card, size_t card_length, const uint64_t *plan, size_t plan_length, uint64_t layer,
     int32_t *coefficients, size_t coefficients_length, int64_t *values, size_t values_length, uint64_t *answer, size_t answer_length);
+
+/* What trace_card_refine would give, without refining: the answer is the same, and the values go to next, which has rows x cols elements, or the call
+ * is refused (3). Coefficients and values are only read. */
+uint64_t trace_card_preview(const uint8_t *card, size_t card_length, const uint64_t *plan, size_t plan_length, uint64_t layer,
+    const int32_t *coefficients, size_t coefficients_length, const int64_t *values, size_t values_length, int64_t *next, size_t next_length,
+    uint64_t *answer, size_t answer_length);
 
 /* The figure of a plan. */
 uint64_t trace_card_figure(const uint8_t *card, size_t card_length, const uint64_t *plan, size_t plan_length, uint64_t *answer,

@@ -1,5 +1,5 @@
-//! Write, show, roll, compare, refine and both plannings beside the same calls in Rust (`fast`), in one run: the best of
-//! many, in microseconds, and the ratio. It stops where the two give different results. The roll stands beside Rust's own
+//! Write, show, roll, compare, refine, preview and both plannings beside the same calls in Rust (`fast`), in one run: the best
+//! of many, in microseconds, and the ratio. It stops where the two give different results. The roll stands beside Rust's own
 //! formatting too.
 //!
 //! `cargo bench --offline`, after `rt staticlib trace_card`.
@@ -48,6 +48,7 @@ struct Setting {
 struct Slices {
     coefficients: Vec<i32>,
     values: Vec<i64>,
+    next: Vec<i64>,
     second_coefficients: Vec<i32>,
     second_values: Vec<i64>,
     output: Vec<u8>,
@@ -60,6 +61,7 @@ fn slices(points: usize) -> Slices {
     Slices {
         coefficients: vec![0; points],
         values: vec![0; points],
+        next: vec![0; points],
         second_coefficients: vec![0; points],
         second_values: vec![0; points],
         output: vec![0; 32_768],
@@ -163,6 +165,7 @@ fn same(ours: &Slices, theirs: &Slices) {
     assert_eq!(ours.answer, theirs.answer);
     assert_eq!(ours.coefficients, theirs.coefficients);
     assert_eq!(ours.values, theirs.values);
+    assert_eq!(ours.next, theirs.next);
     assert_eq!(ours.second_coefficients, theirs.second_coefficients);
     assert_eq!(ours.second_values, theirs.second_values);
     assert_eq!(ours.output, theirs.output);
@@ -228,6 +231,27 @@ fn run(setting: &Setting) {
         rust(&mut theirs);
         same(&ours, &theirs);
         compare("refine", || proved(&mut ours), || rust(&mut theirs));
+
+        // The same plane; nothing need be copied, since coefficients and values stay.
+        let proved = |s: &mut Slices| {
+            let (v, next) = (&s.values, &mut s.next);
+            assert_eq!(
+                boundary::preview(&card, &plan, layer, &start, v, next, &mut s.answer),
+                0
+            );
+        };
+        let rust = |s: &mut Slices| {
+            let (v, next) = (&s.values, &mut s.next);
+            let previewed =
+                fast::preview(&card, &plan, layer, &start, v, next).expect("a plane more");
+            reached(&mut s.answer, previewed);
+        };
+        proved(&mut ours);
+        rust(&mut theirs);
+        same(&ours, &theirs);
+        // What refining left.
+        assert_eq!(ours.next, ours.values);
+        compare("preview", || proved(&mut ours), || rust(&mut theirs));
     }
 
     let limit = setting.step + 1000;

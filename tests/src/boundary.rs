@@ -90,6 +90,21 @@ mod c {
             answer: *mut u64,
             answer_length: usize,
         ) -> u64;
+        pub fn trace_card_preview(
+            card: *const u8,
+            card_length: usize,
+            plan: *const u64,
+            plan_length: usize,
+            layer: u64,
+            coefficients: *const i32,
+            coefficients_length: usize,
+            values: *const i64,
+            values_length: usize,
+            next: *mut i64,
+            next_length: usize,
+            answer: *mut u64,
+            answer_length: usize,
+        ) -> u64;
         pub fn trace_card_figure(
             card: *const u8,
             card_length: usize,
@@ -265,6 +280,34 @@ pub fn refine(
             coefficients.len(),
             values.as_mut_ptr(),
             values.len(),
+            answer.as_mut_ptr(),
+            answer.len(),
+        )
+    }
+}
+
+pub fn preview(
+    card: &[u8],
+    plan: &[u64],
+    layer: u64,
+    coefficients: &[i32],
+    values: &[i64],
+    next: &mut [i64],
+    answer: &mut [u64],
+) -> u64 {
+    unsafe {
+        c::trace_card_preview(
+            card.as_ptr(),
+            card.len(),
+            plan.as_ptr(),
+            plan.len(),
+            layer,
+            coefficients.as_ptr(),
+            coefficients.len(),
+            values.as_ptr(),
+            values.len(),
+            next.as_mut_ptr(),
+            next.len(),
             answer.as_mut_ptr(),
             answer.len(),
         )

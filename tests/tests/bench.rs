@@ -9,7 +9,8 @@ use trace_card_tests::model::figure::{carry, loss};
 use trace_card_tests::model::predict::cubic;
 use trace_card_tests::model::program::{shown, trace, trace_compare};
 use trace_card_tests::model::{
-    figure, open, plan_by_cells, plan_by_limit, read, refine, show, write, Curve, Reached, Refusal,
+    figure, open, plan_by_cells, plan_by_limit, preview, read, refine, show, write, Curve, Reached,
+    Refusal,
 };
 
 #[test]
@@ -88,6 +89,32 @@ fn its_cut_is_read_and_refined_to_the_same() {
         Err(refusal(9, [0, 0]))
     );
     assert_eq!(figure(card, &plan(&[3])), Ok(10));
+}
+
+/// From three planes of the anchors, which the whole card has and its first 160 bytes too.
+#[test]
+fn one_plane_more_is_previewed() {
+    let card = bench::card();
+    let [_, shown, ..] = bench::shown();
+    let from = shown.reached.plan;
+    let (mut coefficients, mut values) = ([99; 5], [99; 5]);
+    let reached = read(&card, &from, &mut coefficients, &mut values);
+    assert_eq!(reached, Ok(shown.reached));
+    assert_eq!((coefficients, values), (shown.coefficients, shown.values));
+    let look = |card: &[u8], layer| {
+        let mut next = [99; 5];
+        let answer = preview(card, &from, layer, &coefficients, &values, &mut next);
+        (answer, next)
+    };
+    for expected in bench::previewed() {
+        let found = look(&card, expected.layer);
+        assert_eq!(found, (Ok(expected.reached), expected.next));
+        // Pulled, the card has no further plane.
+        let found = look(&card[..shown.length], expected.layer);
+        let refused = refusal(9, [expected.layer, 0]);
+        assert_eq!(found, (Err(refused), [99; 5]));
+    }
+    assert_eq!(look(&card, 2), (Err(refusal(9, [2, 0])), [99; 5]));
 }
 
 #[test]

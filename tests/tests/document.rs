@@ -28,8 +28,8 @@ use trace_card_tests::model::sheet::{
 use trace_card_tests::model::steps::{coefficient, rebuilt, width, LARGEST_STEP};
 use trace_card_tests::model::write::OUTPUT_BYTES;
 use trace_card_tests::model::{
-    compare, figure, open, plan_by_cells, plan_by_limit, refine, roll, show, write, Compared,
-    Curve, Opened, Plan, Planned, Reached, Refusal, MAX_LAYERS,
+    compare, figure, open, plan_by_cells, plan_by_limit, preview, refine, roll, show, write,
+    Compared, Curve, Opened, Plan, Planned, Reached, Refusal, MAX_LAYERS,
 };
 use trace_card_tests::random::cases::{Case, Written};
 use trace_card_tests::random::Random;
@@ -286,6 +286,7 @@ fn the_refusals() {
         format!("**Refining.** Opening's; {LENGTHS} as in reading; {PLAN}: the plan,"),
         format!("{COEFFICIENT}: a coefficient handed in is outside the range of {MOST_DIGITS}"),
         format!("{BAD_PLANE}: the new plane,"),
+        format!("in the same order; {LENGTHS} also where the third slice is not R × C long."),
         format!("**Figure of a plan.** Opening's; {PLAN}: the plan loads more planes"),
         format!("by limit also {LIMIT}: E is below e."),
     ] {
@@ -803,6 +804,78 @@ fn the_bench_card_is_planned() {
     bench.says(&format!(
         "In 5 cells it is {plan} with the figure {figure}."
     ));
+}
+
+/// From three planes of its anchors, with a plane more of each layer.
+#[test]
+fn the_bench_card_is_previewed() {
+    let bench = Example::bench();
+    let (card, part) = (&bench.written.card, example("Look before refining"));
+    let (coefficients, values, from) = bench.pulled(160).unwrap();
+    let [anchors, others] = bench.columns();
+    says(
+        &part,
+        &format!(
+            "The whole bench card, read with {}, has the coefficients {} (in row order), the values \
+             {} and the figure {}, as above.",
+            said(&from.plan),
+            joined(&coefficients, " "),
+            joined(&values, " "),
+            from.figure,
+        ),
+    );
+    let look = |layer| -> Result<(Vec<i64>, Reached), Refusal> {
+        let mut next = vec![0; values.len()];
+        let reached = preview(card, &from.plan, layer, &coefficients, &values, &mut next)?;
+        Ok((next, reached))
+    };
+
+    let (next, Reached { plan, figure }) = look(0).unwrap();
+    let p = bench.opened.planes[0] - plan[0];
+    let mut refined = coefficients.clone();
+    refine(card, &from.plan, 0, &mut refined, &mut values.clone()).unwrap();
+    assert_eq!(bench.first_bytes()[from.plan[0] as usize], 0b101);
+    assert_eq!((p, middle(p)), (1, 0));
+    says(
+        &part,
+        &format!(
+            "A preview of layer 0 adds its plane at place {p}, in which the first and the third \
+             anchor have a 1, of weight {}: {}. One digit is still missing, and middle({p}) = {}: \
+             the anchors' values are {}, and the others are predicted as {}. So the third slice \
+             holds {}, and the answer is the plan {} with the figure {figure}.",
+            weight(p),
+            listed(&at(&anchors, &refined)),
+            middle(p),
+            listed(&at(&anchors, &next)),
+            listed(&at(&others, &next)),
+            joined(&next, " "),
+            said(&plan),
+        ),
+    );
+
+    let (next, Reached { plan, figure }) = look(1).unwrap();
+    assert_eq!(plan[1], bench.opened.planes[1]);
+    says(
+        &part,
+        &format!(
+            "A preview of layer 1 adds its one plane, in which column 1 has a 1. The anchors stay \
+             {}, column 1 is {} and column 3 is {}: {}, and the answer is {} with the figure \
+             {figure}.",
+            listed(&at(&anchors, &values)),
+            sum(values[1], next[1] - values[1]),
+            next[3],
+            joined(&next, " "),
+            said(&plan),
+        ),
+    );
+    let Refusal { number, details } = look(2).unwrap_err();
+    says(
+        &part,
+        &format!(
+            "A preview of layer 2 is refused ({number}, detail {}).",
+            details[0]
+        ),
+    );
 }
 
 #[test]

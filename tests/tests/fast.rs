@@ -5,6 +5,7 @@ mod common;
 use common::card_with;
 use common::extremes::Sheet;
 use common::missing::{any_coefficients, every_missing, made_up};
+use common::previews::{any_preview, faulty_previews, Preview};
 use trace_card_tests::fast;
 use trace_card_tests::model::roll::page_bytes;
 use trace_card_tests::model::{self, open, Compared, Plan, Reached, Refusal};
@@ -13,6 +14,7 @@ use trace_card_tests::random::Random;
 
 type Show = fn(&[u8], &mut [i32], &mut [i64]) -> Result<Reached, Refusal>;
 type Refine = fn(&[u8], &Plan, u64, &mut [i32], &mut [i64]) -> Result<Reached, Refusal>;
+type Look = fn(&[u8], &Plan, u64, &[i32], &[i64], &mut [i64]) -> Result<Reached, Refusal>;
 type Roll = fn(&[u8], &mut [i32], &mut [i64], &mut [u8]) -> Result<Reached, Refusal>;
 
 /// The roll of a card, on a page that is long enough or about as long; sometimes with something else
@@ -37,6 +39,19 @@ fn check_roll(random: &mut Random, card: &[u8], points: usize) {
         (reached, coefficients, values, page)
     };
     assert_eq!(left(fast::roll), left(model::roll));
+}
+
+/// A preview as the model makes it. Answers what it came to.
+fn check_preview(given: &Preview) -> Result<Reached, Refusal> {
+    let left = |preview: Look| {
+        let [values, mut next] = given.lengths.map(|length| vec![5; length]);
+        let (card, plan, coefficients) = (&given.card, &given.plan, &given.coefficients);
+        let reached = preview(card, plan, given.layer, coefficients, &values, &mut next);
+        (reached, next)
+    };
+    let found = left(fast::preview);
+    assert_eq!(found, left(model::preview));
+    found.0
 }
 
 fn check(random: &mut Random, case: &Case) {
@@ -82,6 +97,14 @@ fn check(random: &mut Random, case: &Case) {
             model::refine(card, &plan, layer, &mut theirs_q, &mut theirs_v)
         );
         assert_eq!((q, v), (theirs_q, theirs_v));
+        let previewed = check_preview(&Preview {
+            card: card.clone(),
+            plan,
+            layer,
+            coefficients: coefficients.clone(),
+            lengths: [n; 2],
+        });
+        assert_eq!(previewed, refined);
     }
 
     let digits = random.below(40);
@@ -97,8 +120,8 @@ fn check(random: &mut Random, case: &Case) {
     );
 }
 
-/// Cards of 23 digits in every layer that has points, shown at any cut, and refined from any coefficients with
-/// every number of digits missing.
+/// Cards of 23 digits in every layer that has points, shown at any cut, and refined and previewed from any
+/// coefficients with every number of digits missing.
 #[test]
 fn missing_digits_of_made_up_cards() {
     let mut random = Random::new(565);
@@ -121,8 +144,36 @@ fn missing_digits_of_made_up_cards() {
                     (refine(&card, &plan, layer, &mut q, &mut v), q, v)
                 };
                 assert_eq!(left(fast::refine), left(model::refine));
+                let previewed = check_preview(&Preview {
+                    card: card.clone(),
+                    plan,
+                    layer,
+                    coefficients: any,
+                    lengths: [points; 2],
+                });
+                let further = opened.planes[layer as usize] > plan[layer as usize];
+                assert_eq!(previewed.is_ok(), further);
             }
         }
+    }
+}
+
+/// Right ones, those of damaged cards, with slices of other lengths, and every group of faults.
+#[test]
+fn previews_taken_and_refused() {
+    let mut random = Random::new(566);
+    let mut met = [0; 12];
+    for _ in 0..3000 {
+        let case = Case::small(&mut random);
+        let given = any_preview(&mut random, case.write().card, case.count());
+        let refused = check_preview(&given).err();
+        met[refused.map_or(0, |refused| refused.number) as usize] += 1;
+    }
+    for number in [0, 3, 5, 6, 7, 8, 9, 11] {
+        assert!(met[number] > 30, "{met:?}");
+    }
+    for (given, refused) in faulty_previews() {
+        assert_eq!(check_preview(&given), Err(refused));
     }
 }
 

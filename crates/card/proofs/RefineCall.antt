@@ -1,12 +1,13 @@
 -- Refining, by what each step answers: the next plane of a layer is there where it is whole; what adding it answers is the refinement once the values are rebuilt and the figure of the plan with it, which is still one of the header's, stands beside them, unless it is a refusal.
-use mathlib.Core.Bool.{true}
+use mathlib.Core.Bool.{true, false, _&&_}
 use mathlib.Core.List.{List}
 use mathlib.Core.Path.{_≡_, refl, ap, ap₂, _∙_}
 use Prim.Native.Nat.{ℕ, suc, _+_, _-_, _^_, _<_, _≤_}
 use native.Mathlib.Decide.{ℕ-discrete, decLt}
 use native.Mathlib.Omega.{arith}
-use Rattle.integers.proofs.Bools.{by}
+use Rattle.integers.proofs.Bools.{by, cond-rel}
 use borrow.Author.Tests.{lt-ltb, le-ltb}
+use lib.Dec.{ltb, eqb}
 use lib.IntN.{ℤ}
 use lib.ListN.{length, set, length-set, List·getD-eq-default}
 use lib.Seq.{getD-set-same, getD-set-other}
@@ -19,7 +20,7 @@ use Rattle.header.specs.Refusals.{refusal, detailsOf}
 use Rattle.header.specs.Header.{planesOf}
 use Rattle.header.specs.Plan.{loads, firstOver, withPlane}
 use Rattle.header.specs.Opening.{wellFormed}
-use Rattle.order.specs.CardOrder.{isWhole, whole, wholePlan}
+use Rattle.order.specs.CardOrder.{isWhole, whole, wholePlan, wholeOf}
 use Rattle.figure.specs.Figure.{figureOf}
 use Rattle.header.proofs.Over.{over-none, none-over}
 use Rattle.header.proofs.WellFormed.{right-yes, layers-few, few-planes}
@@ -32,7 +33,7 @@ use Rattle.loading.proofs.Loads.{plus-long}
 use Rattle.card.specs.Reading.{Reading, valuesWith, goodLengths}
 use Rattle.card.specs.Workings.{finished}
 use Rattle.card.specs.Reading as R
-use Rattle.card.specs.Refining.{refineLayer}
+use Rattle.card.specs.Refining.{refineLayer, refineOpened}
 use Rattle.card.proofs.ReadCall.{good-lengths, can-load, finished-is}
 
 -- ---- what a refinement that is not refused answers
@@ -137,3 +138,26 @@ module _ (h : Header) (r : wellFormed h ≡ true) (long : ℕ) (bs : List ℕ) (
     added-refine refusal q p pl e x y =
         ap₂ (λ (l : Loading) (p : Plan). finished (l .refused) h p (l .coefficients) vs) (x ∙ ap (adding qs bs h long k) e) y
         ∙ finished-added
+
+-- ---- the old values: refining asks for their length alone, so that into another slice of values it answers the same
+module _ (qs : List ℤ) (bs : List ℕ) (h : Header) (long : ℕ) (plan : Plan) (k : ℕ) where
+  pub refine-short : (vs : List ℤ) → goodLengths qs vs h ≡ false → refineOpened qs vs bs h long plan k ≡ R.notRead qs vs (refusal 3 0 0)
+  unfolding refineOpened R.firstRefusal
+  refine-short vs n = rw n
+
+  module _ (vs vs′ : List ℤ) (same : goodLengths qs vs′ h ≡ goodLengths qs vs h) where
+    abbrev Alike : Reading → Reading → Type 0
+    Alike r′ r = r′ ≡ R.unless qs vs′ (r .refused) r
+
+    pub refine-unread : Alike (refineOpened qs vs′ bs h long plan k) (refineOpened qs vs bs h long plan k)
+    unfolding refineOpened R.firstRefusal
+    refine-unread =
+        let check = R.firstRefusal qs vs h (wholeOf bs h long) plan in
+        rw same
+        (cond-rel Alike (eqb (check .number) 0)
+        (λ _. cond-rel Alike (ltb k (layers (h .shape)) && ltb (loads plan k) (loads (wholeOf bs h long) k))
+        (λ _. cond-rel Alike (allHeld qs)
+        (λ _. cond-rel Alike (fine h long bs k (planesOf h k - suc (loads plan k))) (λ _. refl) (λ _. refl))
+        (λ _. refl))
+        (λ _. refl))
+        (λ n. rw n))

@@ -21,6 +21,7 @@ pub mod Again
 pub mod Compares
 pub mod Holds
 pub mod Middles
+pub mod Previews
 pub mod Refined
 pub mod Refused
 pub mod Rolls

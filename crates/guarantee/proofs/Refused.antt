@@ -28,12 +28,14 @@ use Rattle.loading.specs.InBytes.{firstBad, fine}
 use Rattle.card.specs.Writing.{notWritten, badSizes, badSettings, roomToWrite, afterScan, writing}
 use Rattle.card.specs.Reading.{Reading, notRead, unless, firstRefusal, readOpened, reading, showing}
 use Rattle.card.specs.Refining.{refineOpened, refining}
+use Rattle.preview.specs.Previewing.{Previewing, previewing}
+use Rattle.preview.proofs.Previewed.{either}
 use Rattle.roll.specs.Page.{pageLength}
 use Rattle.roll.specs.Rolling.{Rolling, notRolled, rolled, rolling}
 use Rattle.compare.specs.Comparing.{Lent, Comparing, sizeRefusal, notCompared, comparing}
 use Rattle.compare.specs.Comparing as N
-use Rattle.trace_card.specs.Boundary.{answerLength, AfterReading, AfterAsking, answerable, isPlan, planOf, readAs, rolledAs, comparedAs, left, printedOn, marked, asked, unread, writingBy, writeCall, readCall, showCall, refineCall, rollCall, compareCall, figureCall, limitCall, cellsCall}
-use Rattle.guarantee.specs.Unchanged.{KeptByWriting, KeptByReading, KeptByRolling, KeptByComparing, KeptByWrite, KeptByRead, KeptByRoll, KeptByCompare, UnchangedThroughC, Unchanged}
+use Rattle.trace_card.specs.Boundary.{answerLength, AfterReading, AfterPreviewing, AfterAsking, answerable, isPlan, planOf, readAs, rolledAs, comparedAs, left, saw, printedOn, marked, asked, unread, writingBy, writeCall, readCall, showCall, refineCall, previewCall, rollCall, compareCall, figureCall, limitCall, cellsCall}
+use Rattle.guarantee.specs.Unchanged.{Refused, KeptByWriting, KeptByReading, KeptByRolling, KeptByComparing, KeptByWrite, KeptByRead, KeptByRoll, KeptByCompare, UnchangedThroughC, Unchanged}
 
 -- ---- writing
 module _ (xs : List ℤ) (sh : Shape) (curve : Curve) (e : ℕ) (qs vs : List ℤ) (out : List ℕ) where
@@ -89,6 +91,11 @@ module _ (qs vs : List ℤ) where
       (λ _. choice (KeptByReading qs vs) (fine h long bs k (planesOf h k - suc (loads plan k))) (λ _. accepted refl) (λ _. not-read _))
       (λ _. not-read _))
       (λ _. not-read _)))
+
+-- ---- previewing
+previewing-kept : (qs vs ns : List ℤ) (bs : List ℕ) (plan : Plan) (k : ℕ) → (let p = previewing qs vs ns bs plan k in Refused (p .refused .number) → p .next ≡ ns)
+previewing-kept qs vs ns bs plan k =
+    either qs vs ns bs plan k (λ (p : Previewing). Refused (p .refused .number) → p .next ≡ ns) (λ _ _ _. refl) (λ zero no. absurd (no zero))
 
 -- ---- rolling
 module _ (qs vs : List ℤ) (page : List ℕ) where
@@ -172,7 +179,7 @@ by-lengths P answer plan good bad =
     (λ _. bad)
 
 through-c : UnchangedThroughC
-unfolding writeCall readCall showCall refineCall rollCall compareCall figureCall limitCall cellsCall
+unfolding writeCall readCall showCall refineCall previewCall rollCall compareCall figureCall limitCall cellsCall
 through-c =
     record {
       write = write-kept;
@@ -182,6 +189,8 @@ through-c =
           choice (KeptByRead qs vs) (answerable answer) (λ _. read-as qs vs (showing-kept qs vs card)) (λ _. nothing-read qs vs answer);
       refine = λ qs vs answer card plan layer.
           by-lengths (KeptByRead qs vs) answer plan (λ _. read-as qs vs (refining-kept qs vs card (planOf plan) layer)) (nothing-read qs vs answer);
+      preview = λ qs vs ns answer card plan layer.
+          by-lengths (λ (a : AfterPreviewing). Refused (a .returned) → a .next ≡ ns) answer plan (λ _. previewing-kept qs vs ns card (planOf plan) layer) (λ _. refl);
       roll = λ qs vs page answer card.
           choice (KeptByRoll qs vs page) (answerable answer) (λ _. rolled-as qs vs page (rolling-kept qs vs page card)) (λ _. nothing-rolled qs vs page answer);
       compare = λ one two apart answer first second.
@@ -191,6 +200,8 @@ through-c =
       unshown = λ qs vs answer card wrong. rw (wrong-answer answer wrong);
       unrefined = λ qs vs answer card plan layer wrong.
           by-lengths (λ (a : AfterReading). a ≡ left 3 answer qs vs) answer plan (λ good. absurd (wrong good)) refl;
+      unpreviewed = λ qs vs ns answer card plan layer wrong.
+          by-lengths (λ (a : AfterPreviewing). a ≡ saw 3 answer qs vs ns) answer plan (λ good. absurd (wrong good)) refl;
       unrolled = λ qs vs page answer card wrong. rw (wrong-answer answer wrong);
       uncompared = λ one two apart answer first second wrong. rw (wrong-answer answer wrong);
       unbounded = λ card plan answer wrong. by-lengths (λ (a : AfterAsking). a ≡ asked 3 answer) answer plan (λ good. absurd (wrong good)) refl;
@@ -199,4 +210,4 @@ through-c =
     }
 
 pub unchanged : Unchanged
-unchanged = record { write = writing-kept; read = reading-kept; show = showing-kept; refine = refining-kept; roll = rolling-kept; compare = comparing-kept; through-c = through-c }
+unchanged = record { write = writing-kept; read = reading-kept; show = showing-kept; refine = refining-kept; preview = previewing-kept; roll = rolling-kept; compare = comparing-kept; through-c = through-c }

@@ -2,7 +2,7 @@
 use mathlib.Core.Path.{refl}
 use lib.ListN.{take}
 use Rattle.integers.specs.Floor.{floorDiv, ceilDiv}
-use Rattle.digits.specs.Digits.{value, firstFrom, low, high, middle, loss}
+use Rattle.digits.specs.Digits.{value, weight, firstFrom, low, high, holds, middle, loss}
 use Rattle.digits.proofs.Examples as E
 use Rattle.sheet.specs.Lists.{tabulate, count, nth, total}
 use Rattle.sheet.specs.Sheet.{spacing, inLayer, layerSize, placeIn, directions}
@@ -11,13 +11,13 @@ use Rattle.layers.specs.Layering.{lastIn, pointBy, layerBy, valuesBy, alongside
 use Rattle.layers.specs.Carry.{carried, narrow, standing}
 use Rattle.layers.proofs.Worked.{cubic-down, carried-twice, carried-narrow}
 use Rattle.header.specs.Header.{planeCells, cellsOf, asciiFrom}
-use Rattle.header.specs.Plan.{firstOver}
+use Rattle.header.specs.Plan.{firstOver, withPlane}
 use Rattle.order.specs.CardOrder.{cellsBefore, isWhole, whole}
 use Rattle.figure.specs.Figure.{figureOf}
 use Rattle.figure.specs.Bounding.{bounding}
-use Rattle.packing.specs.Planes.{allBelow}
+use Rattle.packing.specs.Planes.{allBelow, allHeld}
 use Rattle.card.specs.Reading.{valuesWith}
-use Rattle.loading.specs.InBytes.{bitAt, clean, hasOne, fineBits, fine, badSlot, firstBad, coefRead, coefsRead}
+use Rattle.loading.specs.InBytes.{bitAt, clean, hasOne, fineBits, fine, badSlot, firstBad, coefRead, coefsRead, coefsPlus}
 use Rattle.text.specs.Decimal.{digitsIn, decimal, signed}
 use Rattle.text.specs.Text.{rightAligned}
 use Rattle.compare.specs.Comparing.{agree, apartAt, marks}
@@ -35,6 +35,7 @@ unfolding
     marks apartAt agree nth
     pageText figureLine valueLines valueLine rightAligned signed decimal digitsIn
     valuesWith counted low high middle loss
+    withPlane coefsPlus weight allHeld holds
     bounding figureOf standing carried narrow cellsOf total planeCells ceilDiv layerSize count inLayer directions spacing asciiFrom
 bench =
     record {
@@ -46,6 +47,9 @@ bench =
       fineWritten = C.fine-written;
       apart = λ one two bytes five five′ long. C.compares one two bytes five five′ long card fineCard (openings .whole) (openings .fine) refl refl;
       agreed = λ one two bytes five five′ long. C.compares one two bytes five five′ long (take 160 card) fineCard (openings .at160) (openings .fine) refl refl;
+      look0 = λ ns long. C.looks ns long 0;
+      look1 = λ ns long. C.looks ns long 1;
+      look2 = λ ns long. C.looks ns long 2;
       at159 = λ qs vs five. C.shown qs vs five (take 159 card) (openings .at159);
       at64 = λ qs vs five. C.shown qs vs five (take 64 card) (openings .at64);
       at63 = C.cut;

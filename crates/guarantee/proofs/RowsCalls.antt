@@ -11,6 +11,7 @@ use lib.ListN.{length, take}
 use Rattle.integers.specs.Floor.{floorDiv, ceilDiv}
 use Rattle.digits.specs.Digits.{low, high, lowest, higher, digitAt, holds, firstFrom}
 use Rattle.sheet.specs.declared.Curve.the-variants.{Linear, Cubic}
+use Rattle.sheet.specs.Limits.{layersMost}
 use Rattle.sheet.specs.Lists.{tabulate, count, nth, total}
 use Rattle.sheet.specs.Sheet.{points, spacing, inLayer, layerSize, pointOf, directions}
 use Rattle.layers.specs.Prediction.{linear, line, predictedAt, width, coefficientOf, rebuiltFrom}
@@ -23,24 +24,26 @@ use Rattle.text.specs.Joined.{joined}
 use Rattle.header.specs.declared.Header.{Header}
 use Rattle.header.specs.Refusals.{refusal}
 use Rattle.header.specs.Header.{planeCells, cellsOf, asciiFrom, headerText}
-use Rattle.header.specs.Plan.{loads}
+use Rattle.header.specs.Plan.{loads, firstOver}
 use Rattle.header.specs.Opening.{opening}
 use Rattle.header.proofs.HeaderLines.{accepting}
 use Rattle.header.proofs.Over.{none-over}
 use Rattle.header.proofs.Worked.{benchHeader}
-use Rattle.order.specs.CardOrder.{atPlace, downFrom, wholeOf}
+use Rattle.order.specs.CardOrder.{cellsBefore, isWhole, whole, atPlace, downFrom, wholeOf}
 use Rattle.packing.specs.Planes.{allBelow, packed, planeBit, planeBytes, body, enough, planesFor, countsFor, cardOf}
 use Rattle.card.specs.Writing.{outputLeast, badSizes, done, writing}
 use Rattle.loading.specs.InBytes.{firstBad}
 use Rattle.card.specs.Reading.{Reading, readWhole, readOpened, showing}
 use Rattle.card.specs.Reading as R
+use Rattle.card.specs.Refining.{refineLayer, refineOpened, refining}
 use Rattle.card.proofs.ReadCall.{lengths-good, checked-none}
+use Rattle.preview.specs.Previewing.{Previewing, unless, seen, nextRefusal, previewing}
 use Rattle.compare.specs.Comparing.{Lent, sameSize, sizeRefusal, compared, comparing}
 use Rattle.roll.specs.Page.{pageText}
 use Rattle.roll.specs.Rolling.{printed, rolled, rolling}
 use Rattle.planner.specs.Planning.{bestByLimit, bestByCells, found, byLimit, byCells}
 use Rattle.planner.specs.Planning as N
-use Rattle.guarantee.specs.Bench.{shape, samples, coefficients, card, fineSamples, fineCoefficients, fineCard, Five}
+use Rattle.guarantee.specs.Bench.{shape, samples, coefficients, card, threeLayers, coarseCoefficients, coarseValues, looked, fineSamples, fineCoefficients, fineCard, Five}
 use Rattle.guarantee.proofs.RowsOpened.{opened, fineHeader, openings}
 
 -- ---- writing
@@ -119,6 +122,24 @@ module _ (qs vs : List ℤ) where
   pub cut : showing qs vs (take 63 card) ≡ R.notRead qs vs (refusal 5 0 0)
   unfolding showing
   cut = rw (openings .at63)
+
+-- ---- previewing, from three planes of the bench card's anchors
+abbrev refinedCopy : ℕ → Reading
+refinedCopy = refineLayer coarseCoefficients coarseValues card benchHeader 64 (threeLayers 3 0 0)
+
+three-whole : firstOver (loads (wholeOf card benchHeader 64)) (loads (threeLayers 3 0 0)) ≡ layersMost
+unfolding firstOver firstFrom whole isWhole cellsBefore planeCells ceilDiv layerSize count inLayer directions spacing total asciiFrom tabulate
+three-whole = refl
+
+pub looks : (ns : List ℤ) → length ns ≡ 5 → (k : ℕ)
+    → looked ns k ≡ unless coarseCoefficients coarseValues ns (refinedCopy k .refused) (seen coarseCoefficients coarseValues ns (refinedCopy k))
+unfolding previewing nextRefusal full refining refineOpened
+looks ns long k =
+    rw (
+      openings .whole,
+      eq-eqb (length ns) 5 long,
+      checked-none coarseCoefficients coarseValues benchHeader (wholeOf card benchHeader 64) (threeLayers 3 0 0) (lengths-good coarseCoefficients coarseValues benchHeader refl refl) three-whole,
+    )
 
 -- ---- comparing what the bench card shows with what the finer one does
 module _ (one two : Lent) (bytes : List ℕ) where

@@ -22,6 +22,7 @@ use Rattle.card.specs.Reading as R
 use Rattle.figure.specs.Bounding.{Bounding, bounding}
 use Rattle.planner.specs.Planning.{Planning, byLimit, byCells, cellsIn, figureIn}
 use Rattle.planner.specs.Planning as N
+use Rattle.preview.specs.Previewing.{Previewing, notPreviewed, previewing}
 use Rattle.roll.specs.Rolling.{rolling}
 use Rattle.compare.specs.Comparing.{Lent, lent, comparing}
 
@@ -52,6 +53,21 @@ card = text ++ (cell 4 ++ (cell 4 ++ (cell 7 ++ (cell 5 ++ (cell 1 ++ cell 1))))
 -- the plan that loads a, b and c planes of the three layers
 abbrev pub threeLayers : ℕ → ℕ → ℕ → Plan
 threeLayers a b c = record { planes = a ∷ b ∷ c ∷ replicate (layersMost - 3) 0 }
+
+-- what three planes of the anchors give: two of their digits are missing, whose middle is -1, so 9, 9 and 33 are three times 4 - 1, 4 - 1 and 12 - 1
+abbrev pub coarseCoefficients : List ℤ
+coarseCoefficients = pos 4 ∷ pos 0 ∷ pos 4 ∷ pos 0 ∷ pos 12 ∷ []
+
+abbrev pub coarseValues : List ℤ
+coarseValues = pos 9 ∷ pos 9 ∷ pos 9 ∷ pos 21 ∷ pos 33 ∷ []
+
+-- a preview from there of one plane more, in a third slice that held ns
+abbrev pub looked : List ℤ → ℕ → Previewing
+looked ns k = previewing coarseCoefficients coarseValues ns card (threeLayers 3 0 0) k
+
+abbrev pub foreseen : Plan → ℕ → List ℤ → Previewing
+foreseen plan figure next =
+    record { refused = refusal 0 0 0; plan = plan; figure = figure; coefficients = coarseCoefficients; values = coarseValues; next = next }
 
 -- a finer card of the same hour, but for its last sample: one level, cubic, step 0
 abbrev pub fineSamples : List ℤ
@@ -102,16 +118,10 @@ pub record Bench : Type 0 where
       ≡ record { refused = refusal 0 0 0; long = 256; coefficients = coefficients; values = values; output = card ++ drop 256 out }
   pub header : length text ≡ 64
   pub long : length card ≡ 256
-  -- pulled at byte 160: of the anchors' digits two are missing, whose middle is -1, so 9, 9 and 33 are three times 4 - 1, 4 - 1 and 12 - 1
+  -- pulled at byte 160
   pub at160 : (qs vs : List ℤ) → Five qs vs
       → showing qs vs (take 160 card)
-      ≡ record {
-        refused = refusal 0 0 0;
-        plan = threeLayers 3 0 0;
-        figure = 10;
-        coefficients = pos 4 ∷ pos 0 ∷ pos 4 ∷ pos 0 ∷ pos 12 ∷ [];
-        values = pos 9 ∷ pos 9 ∷ pos 9 ∷ pos 21 ∷ pos 33 ∷ [];
-      }
+      ≡ record { refused = refusal 0 0 0; plan = threeLayers 3 0 0; figure = 10; coefficients = coarseCoefficients; values = coarseValues }
   -- and rolled: what showing gives, and on the page the figure and a line for each value
   pub roll160 : (qs vs : List ℤ) (page : List ℕ) → Five qs vs → 150 ≤ length page
       → rolling qs vs page (take 160 card)
@@ -142,10 +152,14 @@ pub record Bench : Type 0 where
         number = 0;
         row = 0;
         column = 0;
-        first = lent (pos 4 ∷ pos 0 ∷ pos 4 ∷ pos 0 ∷ pos 12 ∷ []) (pos 9 ∷ pos 9 ∷ pos 9 ∷ pos 21 ∷ pos 33 ∷ []);
+        first = lent coarseCoefficients coarseValues;
         second = lent fineCoefficients fineSamples;
         apart = 0 ∷ 0 ∷ 0 ∷ 0 ∷ 0 ∷ [];
       }
+  -- from three planes of the anchors of the whole card: what a plane more of layer 0 would give, and what one of layer 1 would; layer 2 has none
+  pub look0 : (ns : List ℤ) → length ns ≡ 5 → looked ns 0 ≡ foreseen (threeLayers 4 0 0) 7 (pos 6 ∷ pos 9 ∷ pos 12 ∷ pos 21 ∷ pos 30 ∷ [])
+  pub look1 : (ns : List ℤ) → length ns ≡ 5 → looked ns 1 ≡ foreseen (threeLayers 3 1 0) 7 (pos 9 ∷ pos 12 ∷ pos 9 ∷ pos 21 ∷ pos 33 ∷ [])
+  pub look2 : (ns : List ℤ) → length ns ≡ 5 → looked ns 2 ≡ notPreviewed coarseCoefficients coarseValues ns (refusal 9 2 0)
   -- at byte 159 the third plane is not whole, and the middle of three missing digits is 1
   pub at159 : (qs vs : List ℤ) → Five qs vs
       → showing qs vs (take 159 card)

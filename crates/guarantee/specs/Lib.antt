@@ -1,6 +1,7 @@
 pub mod Unchanged
 pub mod WrittenBack
 pub mod Refinements
+pub mod Preview
 pub mod Roll
 pub mod Guarantee
 pub mod Comparison

@@ -12,9 +12,10 @@ use Rattle.header.specs.declared.Plan.{Plan}
 use Rattle.card.specs.Writing.{Writing, writing}
 use Rattle.card.specs.Reading.{Reading, reading, showing}
 use Rattle.card.specs.Refining.{refining}
+use Rattle.preview.specs.Previewing.{previewing}
 use Rattle.roll.specs.Rolling.{Rolling, rolling}
 use Rattle.compare.specs.Comparing.{Lent, Comparing, comparing}
-use Rattle.trace_card.specs.Boundary.{answerLength, AfterWriting, AfterReading, AfterRolling, AfterComparing, wrote, left, printedOn, marked, asked, writeCall, readCall, showCall, refineCall, rollCall, compareCall, figureCall, limitCall, cellsCall}
+use Rattle.trace_card.specs.Boundary.{answerLength, AfterWriting, AfterReading, AfterRolling, AfterComparing, wrote, left, saw, printedOn, marked, asked, writeCall, readCall, showCall, refineCall, previewCall, rollCall, compareCall, figureCall, limitCall, cellsCall}
 
 -- 0 is the number of no refusal
 abbrev pub Refused : ℕ → Type 0
@@ -58,13 +59,15 @@ pub record KeptByCompare (one two : Lent) (bytes : List ℕ) (a : AfterComparing
   pub second : Refused (a .returned) → a .second ≡ two
   pub apart : Refused (a .returned) → a .apart ≡ bytes
 
--- ---- the nine C functions. `answer` is the call's report, which a refused call fills too
+-- ---- the ten C functions. `answer` is the call's report, which a refused call fills too
 pub record UnchangedThroughC : Type 0 where
   pub write : (xs : List ℤ) (rows cols levels curve step : ℕ) (qs vs : List ℤ) (out answer : List ℕ)
       → KeptByWrite qs vs out (writeCall xs rows cols levels curve step qs vs out answer)
   pub read : (qs vs : List ℤ) (answer card plan : List ℕ) → KeptByRead qs vs (readCall qs vs answer card plan)
   pub show : (qs vs : List ℤ) (answer card : List ℕ) → KeptByRead qs vs (showCall qs vs answer card)
   pub refine : (qs vs : List ℤ) (answer card plan : List ℕ) (layer : ℕ) → KeptByRead qs vs (refineCall qs vs answer card plan layer)
+  pub preview : (qs vs ns : List ℤ) (answer card plan : List ℕ) (layer : ℕ)
+      → (let a = previewCall qs vs ns answer card plan layer in Refused (a .returned) → a .next ≡ ns)
   pub roll : (qs vs : List ℤ) (page answer card : List ℕ) → KeptByRoll qs vs page (rollCall qs vs page answer card)
   pub compare : (one two : Lent) (apart answer first second : List ℕ) → KeptByCompare one two apart (compareCall one two apart answer first second)
   -- where `answer` or a plan has a wrong length there is no report: nothing at all is written, and 3 is returned
@@ -75,6 +78,8 @@ pub record UnchangedThroughC : Type 0 where
   pub unshown : (qs vs : List ℤ) (answer card : List ℕ) → (length answer ≡ answerLength → ⊥) → showCall qs vs answer card ≡ left 3 answer qs vs
   pub unrefined : (qs vs : List ℤ) (answer card plan : List ℕ) (layer : ℕ) → ((length answer ≡ answerLength) × (length plan ≡ layersMost) → ⊥)
       → refineCall qs vs answer card plan layer ≡ left 3 answer qs vs
+  pub unpreviewed : (qs vs ns : List ℤ) (answer card plan : List ℕ) (layer : ℕ) → ((length answer ≡ answerLength) × (length plan ≡ layersMost) → ⊥)
+      → previewCall qs vs ns answer card plan layer ≡ saw 3 answer qs vs ns
   pub unrolled : (qs vs : List ℤ) (page answer card : List ℕ) → (length answer ≡ answerLength → ⊥) → rollCall qs vs page answer card ≡ printedOn 3 answer qs vs page
   pub uncompared : (one two : Lent) (apart answer first second : List ℕ) → (length answer ≡ answerLength → ⊥)
       → compareCall one two apart answer first second ≡ marked 3 answer one two apart
@@ -89,6 +94,8 @@ pub record Unchanged : Type 0 where
   pub read : (qs vs : List ℤ) (bs : List ℕ) (plan : Plan) → KeptByReading qs vs (reading qs vs bs plan)
   pub show : (qs vs : List ℤ) (bs : List ℕ) → KeptByReading qs vs (showing qs vs bs)
   pub refine : (qs vs : List ℤ) (bs : List ℕ) (plan : Plan) (k : ℕ) → KeptByReading qs vs (refining qs vs bs plan k)
+  -- coefficients and values are only read by it (Preview)
+  pub preview : (qs vs ns : List ℤ) (bs : List ℕ) (plan : Plan) (k : ℕ) → (let p = previewing qs vs ns bs plan k in Refused (p .refused .number) → p .next ≡ ns)
   pub roll : (qs vs : List ℤ) (page bs : List ℕ) → KeptByRolling qs vs page (rolling qs vs page bs)
   pub compare : (one two : Lent) (apart first second : List ℕ) → KeptByComparing one two apart (comparing one two apart first second)
   pub through-c : UnchangedThroughC

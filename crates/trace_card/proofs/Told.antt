@@ -13,12 +13,13 @@ use Rattle.card.specs.declared.Reached.{Reached}
 use Rattle.card.specs.declared.Written.{Written}
 use Rattle.card.specs.Reading as R
 use Rattle.card.specs.Writing as W
+use Rattle.preview.specs.Previewing.{asPreviewing}
 use Rattle.roll.specs.Rolling.{asRolling}
 use Rattle.compare.specs.declared.Compared.{Compared}
 use Rattle.compare.specs.Comparing.{Lent, asComparing}
 use Rattle.planner.specs.declared.Planned.{Planned}
 use Rattle.planner.specs.Planning as N
-use Rattle.trace_card.specs.Boundary.{numbers, nothing, wrote, writtenAs, left, readAs, printedOn, rolledAs, columnFirst, marked, comparedAs, asked, boundedAs, plannedAs}
+use Rattle.trace_card.specs.Boundary.{numbers, nothing, wrote, writtenAs, left, readAs, saw, previewedAs, printedOn, rolledAs, columnFirst, marked, comparedAs, asked, boundedAs, plannedAs}
 
 -- the numbers of equal details
 pub details-same : (d e : Details) → d ≡ e → (r size figure : ℕ) (a plan : List ℕ) → r ≡ d .number → a ≡ numbers d size figure plan
@@ -34,6 +35,10 @@ written-told w d e r a qs vs out x y =
 pub reached-told : (t : Reached) (r : ℕ) (a : List ℕ) (qs vs : List ℤ) → r ≡ detailsOf (t .refusal) .number
     → a ≡ numbers (detailsOf (t .refusal)) 0 (t .figure) (t .plan .planes) → left r a qs vs ≡ readAs (R.asReading t qs vs)
 reached-told t r a qs vs x y = λ i. left (x i) (y i) qs vs
+
+pub previewed-told : (t : Reached) (r : ℕ) (a : List ℕ) (qs vs ns : List ℤ) → r ≡ detailsOf (t .refusal) .number
+    → a ≡ numbers (detailsOf (t .refusal)) 0 (t .figure) (t .plan .planes) → saw r a qs vs ns ≡ previewedAs (asPreviewing t qs vs ns)
+previewed-told t r a qs vs ns x y = λ i. saw (x i) (y i) qs vs ns
 
 pub rolled-told : (t : Reached) (r : ℕ) (a : List ℕ) (qs vs : List ℤ) (page : List ℕ) → r ≡ detailsOf (t .refusal) .number
     → a ≡ numbers (detailsOf (t .refusal)) 0 (t .figure) (t .plan .planes) → printedOn r a qs vs page ≡ rolledAs (asRolling t qs vs page)

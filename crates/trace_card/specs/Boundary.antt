@@ -18,6 +18,7 @@ use Rattle.card.specs.Writing as W
 use Rattle.card.specs.Reading.{Reading, reading, showing}
 use Rattle.card.specs.Refining.{refining}
 use Rattle.planner.specs.Planning.{Planning, byLimit, byCells}
+use Rattle.preview.specs.Previewing.{Previewing, previewing}
 use Rattle.roll.specs.Rolling.{Rolling, rolling}
 use Rattle.compare.specs.Comparing.{Lent, Comparing, comparing}
 
@@ -114,6 +115,35 @@ module _ (qs vs : List ℤ) (answer : List ℕ) where
   unfoldable pub refineCall : List ℕ → List ℕ → ℕ → AfterReading
   refineCall card plan layer =
       cond (answerable answer) (cond (isPlan plan) (readAs (refining qs vs card (planOf plan) layer)) unread) unread
+
+-- ---- previewing: coefficients and values are only read
+pub record AfterPreviewing : Type 0 where
+  pub returned : ℕ
+  pub answer : List ℕ
+  pub coefficients : List ℤ
+  pub values : List ℤ
+  pub next : List ℤ
+
+abbrev pub saw : ℕ → List ℕ → List ℤ → List ℤ → List ℤ → AfterPreviewing
+saw r a qs vs ns = record { returned = r; answer = a; coefficients = qs; values = vs; next = ns }
+
+abbrev pub previewedAs : Previewing → AfterPreviewing
+previewedAs p =
+    record {
+      returned = p .refused .number;
+      answer = numbers (p .refused) 0 (p .figure) (p .plan .planes);
+      coefficients = p .coefficients;
+      values = p .values;
+      next = p .next;
+    }
+
+module _ (qs vs ns : List ℤ) (answer : List ℕ) where
+  abbrev pub unseen : AfterPreviewing
+  unseen = saw 3 answer qs vs ns
+
+  unfoldable pub previewCall : List ℕ → List ℕ → ℕ → AfterPreviewing
+  previewCall card plan layer =
+      cond (answerable answer) (cond (isPlan plan) (previewedAs (previewing qs vs ns card (planOf plan) layer)) unseen) unseen
 
 -- ---- rolling: as showing, and the page
 pub record AfterRolling : Type 0 where

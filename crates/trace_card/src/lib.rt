@@ -3,6 +3,7 @@ mod answer;
 mod bounding;
 mod comparing;
 mod planning;
+mod previewing;
 mod reading;
 mod rolling;
 mod writing;

@@ -1,7 +1,7 @@
-//! Writing, showing and refining.
+//! Writing, showing, refining and previewing.
 
 use super::header::{open, print};
-use super::layers::{quantize, rebuild, Grid};
+use super::layers::{quantize, rebuild, rebuild_layers, Grid};
 use super::planes::{gather, is_fine, load, put, spread, OFFSET, WORDS};
 use super::{refused, Header, Plan, CELL, LAYERS, PLACES};
 use crate::model::{Curve, Reached, Refusal};
@@ -112,6 +112,93 @@ pub fn show(card: &[u8], coefficients: &mut [i32], values: &mut [i64]) -> Result
     Ok(reached)
 }
 
+/// The next plane of a layer, found fine, and the plan that it leads to.
+struct NextPlane<'a> {
+    header: Header,
+    layer: usize,
+    bytes: &'a [u8],
+    weight: i32,
+    reached: Plan,
+}
+
+impl<'a> NextPlane<'a> {
+    /// Refused as refining is; the slices for values have these lengths.
+    fn of(
+        card: &'a [u8],
+        plan: &Plan,
+        layer: u64,
+        coefficients: &[i32],
+        values: &[usize],
+    ) -> Result<NextPlane<'a>, Refusal> {
+        let (header, body) = open(card)?;
+        let points = header.points();
+        if coefficients.len() != points || values.iter().any(|&length| length != points) {
+            return refused(3);
+        }
+        let whole = whole(&header, body);
+        if let Some(place) = (0..plan.len()).find(|&k| plan[k] > whole[k]) {
+            return Err(Refusal::with(9, place as u64));
+        }
+        let k = layer as usize;
+        if layer >= header.layers() as u64 || plan[k] == whole[k] {
+            return Err(Refusal::with(9, layer));
+        }
+        if coefficients
+            .iter()
+            .any(|q| !(-2_796_202..=5_592_405).contains(q))
+        {
+            return refused(11);
+        }
+        let p = header.planes[k] - plan[k] - 1;
+        let widths = header.widths();
+        let before: u64 = (0..header.layers())
+            .map(|j| {
+                let above = if j < k { p } else { p + 1 };
+                widths[j] as u64 * header.planes[j].saturating_sub(above)
+            })
+            .sum();
+        let at = before as usize * CELL;
+        let bytes = &body[at..at + widths[k] * CELL];
+        let size = Grid::of(header.levels, k).size(header.rows, header.cols);
+        if !is_fine(bytes, size, p + 1 == header.planes[k]) {
+            return Err(Refusal::with(8, layer));
+        }
+        let weight = if p.is_multiple_of(2) {
+            1 << p
+        } else {
+            -(1 << p)
+        };
+        let mut reached = *plan;
+        reached[k] += 1;
+        Ok(NextPlane {
+            header,
+            layer: k,
+            bytes,
+            weight,
+            reached,
+        })
+    }
+
+    /// Every place of the layer, with what the plane adds to the coefficient there.
+    #[inline(always)]
+    fn each_term(&self, mut visit: impl FnMut(usize, i32)) {
+        let grid = Grid::of(self.header.levels, self.layer);
+        let mut i = 0;
+        grid.each_place(self.header.rows, self.header.cols, |at| {
+            let digit = i32::from(self.bytes[i / 8] >> (i % 8) & 1);
+            visit(at, digit * self.weight);
+            i += 1;
+        });
+    }
+
+    fn reached(&self) -> Reached {
+        Reached {
+            plan: self.reached,
+            figure: self.header.figure(&self.reached),
+        }
+    }
+}
+
 pub fn refine(
     card: &[u8],
     plan: &Plan,
@@ -119,54 +206,29 @@ pub fn refine(
     coefficients: &mut [i32],
     values: &mut [i64],
 ) -> Result<Reached, Refusal> {
-    let (header, body) = open(card)?;
-    if coefficients.len() != header.points() || values.len() != header.points() {
-        return refused(3);
-    }
-    let whole = whole(&header, body);
-    if let Some(place) = (0..plan.len()).find(|&k| plan[k] > whole[k]) {
-        return Err(Refusal::with(9, place as u64));
-    }
-    let k = layer as usize;
-    if layer >= header.layers() as u64 || plan[k] == whole[k] {
-        return Err(Refusal::with(9, layer));
-    }
-    if coefficients
-        .iter()
-        .any(|q| !(-2_796_202..=5_592_405).contains(q))
-    {
-        return refused(11);
-    }
-    let p = header.planes[k] - plan[k] - 1;
-    let widths = header.widths();
-    let before: u64 = (0..header.layers())
-        .map(|j| widths[j] as u64 * header.planes[j].saturating_sub(if j < k { p } else { p + 1 }))
-        .sum();
-    let at = before as usize * CELL;
-    let plane = &body[at..at + widths[k] * CELL];
-    let grid = Grid::of(header.levels, k);
-    if !is_fine(
-        plane,
-        grid.size(header.rows, header.cols),
-        p + 1 == header.planes[k],
-    ) {
-        return Err(Refusal::with(8, layer));
-    }
-    let weight = if p.is_multiple_of(2) {
-        1 << p
-    } else {
-        -(1 << p)
-    };
-    let mut i = 0;
-    grid.each_place(header.rows, header.cols, |at| {
-        coefficients[at] += i32::from(plane[i / 8] >> (i % 8) & 1) * weight;
-        i += 1;
-    });
-    let mut reached = *plan;
-    reached[k] += 1;
-    rebuild(&header, &reached, coefficients, values);
-    Ok(Reached {
-        plan: reached,
-        figure: header.figure(&reached),
-    })
+    let plane = NextPlane::of(card, plan, layer, coefficients, &[values.len()])?;
+    plane.each_term(|at, term| coefficients[at] += term);
+    rebuild(&plane.header, &plane.reached, coefficients, values);
+    Ok(plane.reached())
+}
+
+/// Nothing is copied: what the plane adds is put onto the rebuilt values of its layer, since no point of a layer looks
+/// at another, and before the layers behind it are rebuilt.
+pub fn preview(
+    card: &[u8],
+    plan: &Plan,
+    layer: u64,
+    coefficients: &[i32],
+    values: &[i64],
+    next: &mut [i64],
+) -> Result<Reached, Refusal> {
+    let lengths = [values.len(), next.len()];
+    let plane = NextPlane::of(card, plan, layer, coefficients, &lengths)?;
+    let (header, plan) = (&plane.header, &plane.reached);
+    let (behind, end) = (plane.layer + 1, header.layers());
+    rebuild_layers(header, plan, 0..behind, coefficients, next);
+    let width = 2 * header.step as i64 + 1;
+    plane.each_term(|at, term| next[at] += i64::from(term) * width);
+    rebuild_layers(header, plan, behind..end, coefficients, next);
+    Ok(plane.reached())
 }

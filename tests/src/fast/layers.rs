@@ -2,6 +2,7 @@
 
 use super::{middle, Header, Plan};
 use crate::model::Curve;
+use std::ops::Range;
 
 /// The rows and columns of a layer, and the way its points look.
 #[derive(Clone, Copy)]
@@ -155,12 +156,23 @@ pub fn quantize(header: &Header, samples: &[i32], coefficients: &mut [i32], valu
     }
 }
 
-/// Coefficients to values. What the missing digits of a layer count as is the same at all its points; with it a
-/// coefficient is still far from the ends of 32 bits.
+/// Coefficients to values.
 pub fn rebuild(header: &Header, plan: &Plan, coefficients: &[i32], values: &mut [i64]) {
+    rebuild_layers(header, plan, 0..header.layers(), coefficients, values);
+}
+
+/// The same of some layers, once those before them stand. What the missing digits of a layer count as is the same
+/// at all its points; with it a coefficient is still far from the ends of 32 bits.
+pub fn rebuild_layers(
+    header: &Header,
+    plan: &Plan,
+    layers: Range<usize>,
+    coefficients: &[i32],
+    values: &mut [i64],
+) {
     let width = 2 * header.step as i64 + 1;
-    for (layer, &loaded) in plan.iter().enumerate().take(header.layers()) {
-        let middle = middle(header.planes[layer] - loaded);
+    for layer in layers {
+        let middle = middle(header.planes[layer] - plan[layer]);
         each_point(header, layer, values, |at, predicted| {
             predicted + i64::from(coefficients[at] + middle) * width
         });

@@ -10,7 +10,7 @@ mod planes;
 mod planner;
 mod roll;
 
-pub use card::{refine, show, write};
+pub use card::{preview, refine, show, write};
 pub use compare::compare;
 pub use planner::{plan_by_cells, plan_by_limit};
 pub use roll::roll;

@@ -1,5 +1,5 @@
-//! The model, one file for each idea of docs/CARD.md. All but the roll, comparing, the program trace, what narrow layers carry and what
-//! missing digits count as was written before that document, from the customer's request; none of it shares code or structure with the proved side.
+//! The model, one file for each idea of docs/CARD.md. All but the roll, comparing, previewing, the program trace, what narrow layers carry and
+//! what missing digits count as was written before that document, from the customer's request; none of it shares code or structure with the proved side.
 
 pub mod compare;
 pub mod digits;
@@ -9,6 +9,7 @@ pub mod plan;
 pub mod planes;
 pub mod planner;
 pub mod predict;
+pub mod preview;
 pub mod program;
 pub mod read;
 pub mod refusal;
@@ -23,6 +24,7 @@ pub use header::{open, Opened};
 pub use plan::{Plan, MAX_LAYERS};
 pub use planner::{plan_by_cells, plan_by_limit, Planned};
 pub use predict::Curve;
+pub use preview::preview;
 pub use read::{read, refine, show, Reached};
 pub use refusal::Refusal;
 pub use roll::roll;

@@ -89,6 +89,36 @@ pub fn shown() -> [Shown; 4] {
     ]
 }
 
+/// What previewing one more plane of a layer gives, from the whole card read with three planes of its anchors.
+pub struct Previewed {
+    pub layer: u64,
+    pub reached: Reached,
+    pub next: [i64; 5],
+}
+
+/// By hand, from the anchors' coefficients 4, 4 and 12. The next plane of layer 0 is that at place 1, whose weight
+/// is -2. Its first byte is 5 = 2^0 + 2^2, so the anchors 0 and 2 have a 1 in it: the coefficients are 2, 4 and 10.
+/// The one digit that is missing counts as 0, so columns 0, 2 and 4 become 6, 12 and 30, and columns 1 and 3 are as
+/// predicted, (6 + 12) / 2 = 9 and (12 + 30) / 2 = 21. The figure is 1 + 1 * 3 + 1 * 3 = 7.
+///
+/// The next plane of layer 1 is its only one, at place 0. Its first byte is 1, so of its two points the first,
+/// column 1, has a 1 in it: predicted as (9 + 9) / 2 = 9 it becomes 9 + 3 = 12, and nothing else changes. The
+/// figure is 1 + 2 * 3 = 7. Layer 2 has no plane.
+pub fn previewed() -> [Previewed; 2] {
+    let previewed = |layer, first: &[u64], next| Previewed {
+        layer,
+        reached: Reached {
+            plan: plan(first),
+            figure: 7,
+        },
+        next,
+    };
+    [
+        previewed(0, &[4], [6, 9, 12, 21, 30]),
+        previewed(1, &[3, 1], [9, 12, 9, 21, 33]),
+    ]
+}
+
 fn planned(first: &[u64], cells: u64, figure: u64) -> Planned {
     Planned {
         plan: plan(first),

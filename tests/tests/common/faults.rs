@@ -1,4 +1,4 @@
-//! Comparisons with every group of faults, and the refusal whose turn is first.
+//! Faults of a card, and comparisons with every group of faults and the refusal whose turn is first.
 
 use super::{bench, card_of, refusal};
 use trace_card_tests::model::Refusal;
@@ -19,6 +19,27 @@ struct Side {
     refused: Option<Refusal>,
 }
 
+/// Spoils the opening of a card with the bench card's header, in one of three ways. Answers what it is refused for.
+pub fn spoil_opening(card: &mut Vec<u8>, way: usize) -> Refusal {
+    match way {
+        0 => card.truncate(bench::HEADER_BYTES - 1),
+        1 => card[0] = b'R',
+        _ => card.push(0),
+    }
+    [refusal(5, [0, 0]), refusal(6, [1, 0]), refusal(7, [0, 0])][way]
+}
+
+/// The layers whose planes are spoilt, in each way.
+pub const SPOILT_LAYERS: [u64; 3] = [0, 1, 1];
+
+/// Spoils a plane of a card with the bench card's planes: a spare bit in the fourth plane of layer 0 or in that of
+/// layer 1, or that one, a top plane, with no 1. Answers what it is refused for.
+pub fn spoil_plane(card: &mut [u8], way: usize) -> Refusal {
+    let (cell, byte) = [(3, 8), (5, 16), (5, 0)][way];
+    card[bench::HEADER_BYTES + 32 * cell] = byte;
+    refusal(8, [SPOILT_LAYERS[way], 0])
+}
+
 /// A row of 5 or 6 columns with the bench card's planes, and some faults of a card's own, each in one of
 /// three ways: in opening, in the lengths, in a plane.
 fn side(cols: usize, faults: [bool; 3], way: usize) -> Side {
@@ -27,33 +48,18 @@ fn side(cols: usize, faults: [bool; 3], way: usize) -> Side {
     let line = format!("cols={cols}");
     lines[1] = line.as_bytes();
     let mut card = card_of(&lines, &bench::CELLS);
-    if plane {
-        // A spare bit, in one layer or the other, or a top plane with no 1.
-        let (cell, byte) = [(3, 8), (5, 16), (5, 0)][way];
-        card[bench::HEADER_BYTES + 32 * cell] = byte;
-    }
-    if opening {
-        match way {
-            0 => card.truncate(bench::HEADER_BYTES - 1),
-            1 => card[0] = b'R',
-            _ => card.push(0),
-        }
-    }
+    let plane = plane.then(|| spoil_plane(&mut card, way));
+    let opening = opening.then(|| spoil_opening(&mut card, way));
     let lengths = if length {
         [(cols - 1, cols), (cols, cols + 1), (0, 0)][way]
     } else {
         (cols, cols)
     };
-    let refusals = [
-        [refusal(5, [0, 0]), refusal(6, [1, 0]), refusal(7, [0, 0])][way],
-        refusal(3, [0, 0]),
-        refusal(8, [[0, 1, 1][way], 0]),
-    ];
-    let first = faults.into_iter().position(|fault| fault);
+    let length = length.then_some(refusal(3, [0, 0]));
     Side {
         card,
         lengths,
-        refused: first.map(|turn| refusals[turn]),
+        refused: opening.or(length).or(plane),
     }
 }
 

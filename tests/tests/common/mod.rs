@@ -12,6 +12,7 @@ pub mod files;
 pub mod missing;
 pub mod narrow;
 pub mod page;
+pub mod previews;
 
 use trace_card_tests::model::digits::digits_of;
 use trace_card_tests::model::{Curve, Opened, Plan, Refusal, MAX_LAYERS};

@@ -1,8 +1,8 @@
 //! The bench card, the narrow example and the ends (docs/CARD.md, "Worked examples"), by both.
 
 use super::both::{
-    compare, figure, plan_by_cells, plan_by_limit, read, refine, roll, show, write, written,
-    Slices, B,
+    compare, figure, plan_by_cells, plan_by_limit, preview, read, refine, roll, show, write,
+    written, Slices, B, V,
 };
 use super::common::{bench, narrow, plan, refusal};
 use trace_card_tests::model::{Curve, Refusal};
@@ -93,6 +93,32 @@ fn its_cut_is_refined_to_the_same() {
     assert_eq!(slices.values, shown.values);
     let refused = refine(cut, &reached.plan, 0, &mut slices);
     assert_eq!(refused, Err(refusal(9, [0, 0])));
+}
+
+/// From three planes of the anchors, which the whole card has and its first 160 bytes too.
+#[test]
+fn one_plane_more_is_previewed() {
+    let card = bench::card();
+    let [_, shown, ..] = bench::shown();
+    let from = shown.reached.plan;
+    let mut slices = Slices::new(5).and_next(5);
+    assert_eq!(read(&card, &from, &mut slices), Ok(shown.reached));
+    let mut look = |card: &[u8], layer| {
+        let answer = preview(card, &from, layer, &mut slices);
+        assert_eq!(slices.coefficients, shown.coefficients);
+        assert_eq!(slices.values, shown.values);
+        (answer, std::mem::replace(&mut slices.next, vec![V; 5]))
+    };
+    for expected in bench::previewed() {
+        let found = look(&card, expected.layer);
+        assert_eq!(found, (Ok(expected.reached), expected.next.to_vec()));
+        // Pulled, the card has no further plane.
+        let found = look(&card[..shown.length], expected.layer);
+        let refused = refusal(9, [expected.layer, 0]);
+        assert_eq!(found, (Err(refused), vec![V; 5]));
+    }
+    let refused = Err(refusal(9, [2, 0]));
+    assert_eq!(look(&card, 2), (refused, vec![V; 5]));
 }
 
 #[test]

@@ -107,6 +107,8 @@ pub struct Slices {
     pub values: Vec<i64>,
     /// For a roll alone.
     pub page: Vec<u8>,
+    /// For a preview alone.
+    pub next: Vec<i64>,
 }
 
 impl Slices {
@@ -115,6 +117,7 @@ impl Slices {
             coefficients: vec![Q; coefficients],
             values: vec![V; values],
             page: vec![],
+            next: vec![],
         }
     }
 
@@ -126,6 +129,14 @@ impl Slices {
     pub fn and_page(self, page: usize) -> Slices {
         Slices {
             page: vec![B; page],
+            ..self
+        }
+    }
+
+    /// With a third slice of this length.
+    pub fn and_next(self, next: usize) -> Slices {
+        Slices {
+            next: vec![V; next],
             ..self
         }
     }
@@ -151,6 +162,7 @@ fn reach(call: Call, card: &[u8], plan: &[u64], slices: &mut Slices) -> Result<R
         coefficients: std::mem::take(&mut slices.coefficients),
         values: std::mem::take(&mut slices.values),
         page: std::mem::take(&mut slices.page),
+        next: std::mem::take(&mut slices.next),
         answer: vec![A; ANSWER],
         ..Memory::default()
     };
@@ -158,6 +170,7 @@ fn reach(call: Call, card: &[u8], plan: &[u64], slices: &mut Slices) -> Result<R
     slices.coefficients = memory.coefficients;
     slices.values = memory.values;
     slices.page = memory.page;
+    slices.next = memory.next;
     refusal_in(&memory.answer)?;
     Ok(Reached {
         plan: plan_in(&memory.answer),
@@ -184,6 +197,15 @@ pub fn refine(
     slices: &mut Slices,
 ) -> Result<Reached, Refusal> {
     reach(Call::Refine { layer }, card, plan, slices)
+}
+
+pub fn preview(
+    card: &[u8],
+    plan: &Plan,
+    layer: u64,
+    slices: &mut Slices,
+) -> Result<Reached, Refusal> {
+    reach(Call::Preview { layer }, card, plan, slices)
 }
 
 /// Compares two cards in these slices, two for each of them and one for the marks, which are then as the

@@ -21,6 +21,9 @@ pub enum Call {
     Refine {
         layer: u64,
     },
+    Preview {
+        layer: u64,
+    },
     Figure,
     PlanByLimit(u64),
     PlanByCells(u64),
@@ -35,9 +38,10 @@ pub struct Memory {
     pub card: Vec<u8>,
     pub second: Vec<u8>,
     pub plan: Vec<u64>,
-    // Written to.
+    // Written to, except that a preview only reads coefficients and values.
     pub coefficients: Vec<i32>,
     pub values: Vec<i64>,
+    pub next: Vec<i64>,
     pub second_coefficients: Vec<i32>,
     pub second_values: Vec<i64>,
     pub output: Vec<u8>,
@@ -55,6 +59,7 @@ pub enum Slice {
     Plan,
     Coefficients,
     Values,
+    Next,
     SecondCoefficients,
     SecondValues,
     Output,
@@ -63,13 +68,14 @@ pub enum Slice {
     Answer,
 }
 
-pub const SLICES: [Slice; 12] = [
+pub const SLICES: [Slice; 13] = [
     Slice::Samples,
     Slice::Card,
     Slice::Second,
     Slice::Plan,
     Slice::Coefficients,
     Slice::Values,
+    Slice::Next,
     Slice::SecondCoefficients,
     Slice::SecondValues,
     Slice::Output,
@@ -87,6 +93,7 @@ impl Memory {
             Slice::Plan => self.plan.len(),
             Slice::Coefficients => self.coefficients.len(),
             Slice::Values => self.values.len(),
+            Slice::Next => self.next.len(),
             Slice::SecondCoefficients => self.second_coefficients.len(),
             Slice::SecondValues => self.second_values.len(),
             Slice::Output => self.output.len(),
@@ -105,6 +112,7 @@ impl Memory {
             Slice::Plan => self.plan.resize(length, 0),
             Slice::Coefficients => self.coefficients.resize(length, 0),
             Slice::Values => self.values.resize(length, 0),
+            Slice::Next => self.next.resize(length, 0),
             Slice::SecondCoefficients => self.second_coefficients.resize(length, 0),
             Slice::SecondValues => self.second_values.resize(length, 0),
             Slice::Output => self.output.resize(length, 0),
@@ -126,6 +134,7 @@ pub fn proved(call: Call, memory: &Memory, room: Room) -> Left {
     let plan = Lent::new(&memory.plan, room);
     let mut coefficients = Lent::new(&memory.coefficients, room);
     let mut values = Lent::new(&memory.values, room);
+    let mut next = Lent::new(&memory.next, room);
     let mut second_coefficients = Lent::new(&memory.second_coefficients, room);
     let mut second_values = Lent::new(&memory.second_values, room);
     let mut output = Lent::new(&memory.output, room);
@@ -171,6 +180,10 @@ pub fn proved(call: Call, memory: &Memory, room: Room) -> Left {
             Call::Refine { layer } => {
                 boundary::refine(card, plan, layer, coefficients, values, answer)
             }
+            Call::Preview { layer } => {
+                let next = next.lend();
+                boundary::preview(card, plan, layer, coefficients, values, next, answer)
+            }
             Call::Figure => boundary::figure(card, plan, answer),
             Call::PlanByLimit(limit) => boundary::plan_by_limit(card, limit, answer),
             Call::PlanByCells(cells) => boundary::plan_by_cells(card, cells, answer),
@@ -183,6 +196,7 @@ pub fn proved(call: Call, memory: &Memory, room: Room) -> Left {
         plan: plan.take_back(),
         coefficients: coefficients.take_back(),
         values: values.take_back(),
+        next: next.take_back(),
         second_coefficients: second_coefficients.take_back(),
         second_values: second_values.take_back(),
         output: output.take_back(),
@@ -209,6 +223,7 @@ pub fn differences(found: &Memory, expected: &Memory) -> Vec<String> {
         first_wrong("plan", &found.plan, &expected.plan),
         first_wrong("coefficients", &found.coefficients, &expected.coefficients),
         first_wrong("values", &found.values, &expected.values),
+        first_wrong("next", &found.next, &expected.next),
         first_wrong(
             "second_coefficients",
             &found.second_coefficients,

@@ -1,7 +1,8 @@
 //! Damaged headers through every call but writing.
 
 use super::both::{
-    compare, figure, plan_by_cells, plan_by_limit, read, refine, roll, show, written, Slices, B,
+    compare, figure, plan_by_cells, plan_by_limit, preview, read, refine, roll, show, written,
+    Slices, B,
 };
 use trace_card_tests::boundary::PLAN;
 use trace_card_tests::model::open;
@@ -13,7 +14,7 @@ use trace_card_tests::random::Random;
 /// written. Answers whether they open.
 fn every_call(card: &[u8], fine: &[u8], layer: u64, points: usize) -> bool {
     let none = [0; PLAN];
-    // Coefficients out of range are refusal 11; refining wants some that are not.
+    // Coefficients out of range are refusal 11; refining and previewing want some that are not.
     let slices = Slices::holding(&vec![1; points]);
     let _ = show(card, &mut slices.clone());
     let _ = roll(card, &mut Slices::for_roll(points));
@@ -23,6 +24,7 @@ fn every_call(card: &[u8], fine: &[u8], layer: u64, points: usize) -> bool {
     }
     let _ = read(card, &none, &mut slices.clone());
     let _ = refine(card, &none, layer, &mut slices.clone());
+    let _ = preview(card, &none, layer, &mut slices.and_next(points));
     for asked in [layer, 70_000, u64::MAX] {
         let _ = plan_by_limit(card, asked);
         let _ = plan_by_cells(card, asked);

@@ -122,7 +122,7 @@ fn any_plan(random: &mut Random, whole: &[u64]) -> Plan {
 }
 
 /// All calls, with any numbers; a sheet written has mostly this size.
-fn all_calls(random: &mut Random, (rows, cols): (u64, u64)) -> [Call; 9] {
+fn all_calls(random: &mut Random, (rows, cols): (u64, u64)) -> [Call; 10] {
     let mut size = |right| match random.below(8) {
         0 => any_number(random, 10),
         _ => right,
@@ -141,6 +141,9 @@ fn all_calls(random: &mut Random, (rows, cols): (u64, u64)) -> [Call; 9] {
         Call::Roll,
         Call::Compare,
         Call::Refine {
+            layer: any_number(random, 4),
+        },
+        Call::Preview {
             layer: any_number(random, 4),
         },
         Call::Figure,
@@ -178,6 +181,7 @@ fn any_memory(random: &mut Random, call: Call, given: &Given, plan: &Plan) -> Me
             })
             .collect(),
         values: (0..points).map(|_| random.draw() as i64).collect(),
+        next: vec![V; points],
         second_coefficients: vec![Q; second_points],
         second_values: vec![V; second_points],
         output: vec![B; if writes { OUTPUT_BYTES } else { 0 }],
@@ -202,7 +206,7 @@ fn any_memory(random: &mut Random, call: Call, given: &Given, plan: &Plan) -> Me
 }
 
 /// How often each call returned each number.
-type Met = [[u64; 14]; 9];
+type Met = [[u64; 14]; 10];
 
 /// Makes all calls on these bytes, the second ones for a comparison, with slices for the sheets that they open
 /// to, or for any.
@@ -227,12 +231,13 @@ fn attack(random: &mut Random, cards: [&[u8]; 2], met: &mut Met) {
 
 /// The numbers that each of these calls may return: its own refusals, those of opening a card,
 /// and 3 for an answer or a plan of another length.
-const RETURNED: [&[usize]; 9] = [
+const RETURNED: [&[usize]; 10] = [
     &[0, 1, 2, 3, 4],
     &[0, 3, 5, 6, 7, 8, 9],
     &[0, 3, 5, 6, 7, 8],
     &[0, 3, 5, 6, 7, 8, 12],
     &[0, 3, 5, 6, 7, 8, 13],
+    &[0, 3, 5, 6, 7, 8, 9, 11],
     &[0, 3, 5, 6, 7, 8, 9, 11],
     &[0, 3, 5, 6, 7, 9],
     &[0, 3, 5, 6, 7, 10],
@@ -242,7 +247,7 @@ const RETURNED: [&[usize]; 9] = [
 #[test]
 fn random_bytes() {
     let mut random = Random::new(551);
-    let mut met: Met = [[0; 14]; 9];
+    let mut met: Met = [[0; 14]; 10];
     for _ in 0..10_000 {
         let [first, second] = [(); 2].map(|()| -> Vec<u8> {
             let length = random.below(400);
@@ -261,7 +266,7 @@ fn random_bytes() {
 #[test]
 fn bytes_like_cards() {
     let mut random = Random::new(552);
-    let mut met: Met = [[0; 14]; 9];
+    let mut met: Met = [[0; 14]; 10];
     for _ in 0..25_000 {
         let size = any_size(&mut random);
         let first = card_like(&mut random, size);

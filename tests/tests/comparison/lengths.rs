@@ -15,13 +15,14 @@ const WRITE: Call = Call::Write {
 };
 
 /// Calls that are all accepted in the memory below.
-const CALLS: [Call; 9] = [
+const CALLS: [Call; 10] = [
     WRITE,
     Call::Read,
     Call::Show,
     Call::Roll,
     Call::Compare,
     Call::Refine { layer: 1 },
+    Call::Preview { layer: 1 },
     Call::Figure,
     Call::PlanByLimit(9),
     Call::PlanByCells(5),
@@ -38,6 +39,7 @@ fn memory() -> Memory {
         plan,
         coefficients: vec![1; 5],
         values: vec![V; 5],
+        next: vec![V; 5],
         second_coefficients: vec![Q; 5],
         second_values: vec![V; 5],
         output: vec![B; 32_768],
@@ -51,11 +53,14 @@ fn memory() -> Memory {
 fn expected(call: Call, slice: Slice, length: usize) -> u64 {
     let writes = matches!(call, Call::Write { .. });
     let (rolls, compares) = (matches!(call, Call::Roll), matches!(call, Call::Compare));
-    let reads = matches!(call, Call::Read | Call::Show | Call::Refine { .. }) || rolls || compares;
-    let plans = matches!(call, Call::Read | Call::Refine { .. } | Call::Figure);
+    let previews = matches!(call, Call::Preview { .. });
+    let refines = matches!(call, Call::Refine { .. }) || previews;
+    let reads = matches!(call, Call::Read | Call::Show) || refines || rolls || compares;
+    let plans = matches!(call, Call::Read | Call::Figure) || refines;
     let wrong = match slice {
         Slice::Samples => writes && length != 5,
         Slice::Coefficients | Slice::Values => (writes || reads) && length != 5,
+        Slice::Next => previews && length != 5,
         Slice::SecondCoefficients | Slice::SecondValues | Slice::Apart => compares && length != 5,
         Slice::Output => writes && length < 32_768,
         Slice::Page if rolls && length < 150 => return 12,
@@ -72,7 +77,7 @@ fn expected(call: Call, slice: Slice, length: usize) -> u64 {
         // Cut behind the header, the card has fewer planes than the plan asks.
         Slice::Card => match call {
             Call::Read if length < bench::HEADER_BYTES + 5 * 32 => return 9,
-            Call::Refine { .. } if length < bench::CARD_BYTES => return 9,
+            _ if refines && length < bench::CARD_BYTES => return 9,
             _ => false,
         },
     };
@@ -125,7 +130,8 @@ fn several_slices_at_once() {
         };
         let returned = check(call, &mut only_answer);
         let number = match call {
-            Call::Read | Call::Refine { .. } | Call::Figure | Call::Write { .. } => 3,
+            Call::Read | Call::Refine { .. } | Call::Preview { .. } => 3,
+            Call::Figure | Call::Write { .. } => 3,
             Call::Show | Call::Roll | Call::Compare => 5,
             Call::PlanByLimit(_) | Call::PlanByCells(_) => 5,
         };

@@ -19,6 +19,7 @@ mod lengths;
 mod missing;
 mod narrow;
 mod planning;
+mod previewing;
 mod promised;
 mod reading;
 mod refining;

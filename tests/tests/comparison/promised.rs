@@ -107,6 +107,11 @@ pub fn promised(call: Call, memory: &Memory) -> Left {
         (Call::Refine { layer }, Ok(plan)) => {
             reached(model::refine(card, &plan, layer, coefficients, values))
         }
+        (Call::Preview { layer }, Ok(plan)) => {
+            let next = &mut left.next;
+            let previewed = model::preview(card, &plan, layer, coefficients, values, next);
+            reached(previewed)
+        }
         (Call::Figure, Ok(plan)) => told(model::figure(card, &plan), |figure| {
             answer_with(0, figure, &plan)
         }),

@@ -7,6 +7,7 @@ mod asking;
 mod comparing;
 mod damage;
 mod header;
+mod previewing;
 mod reading;
 mod refining;
 mod rolling;
@@ -14,8 +15,8 @@ mod writing;
 
 use common::bench;
 use trace_card_tests::model::{
-    compare, figure, open, plan_by_cells, plan_by_limit, read, refine, roll, show, Compared, Plan,
-    Reached, Refusal, MAX_LAYERS,
+    compare, figure, open, plan_by_cells, plan_by_limit, preview, read, refine, roll, show,
+    Compared, Plan, Reached, Refusal, MAX_LAYERS,
 };
 
 // The filling of lent slices, which a refusal must leave.
@@ -118,6 +119,10 @@ fn all_refuse(card: &[u8], expected: Refusal) {
         on_slices((2, 1), |q, v| refine(card, &absurd, u64::MAX, q, v)),
         Err(expected)
     );
+    let previewed = on_slices((2, 1), |q, next| {
+        preview(card, &absurd, u64::MAX, q, &[V; 3], next)
+    });
+    assert_eq!(previewed, Err(expected));
     assert_eq!(figure(card, &absurd), Err(expected));
     assert_eq!(plan_by_limit(card, 0), Err(expected));
     assert_eq!(plan_by_cells(card, 0), Err(expected));

@@ -1,0 +1,2 @@
+pub mod Previewed
+mod PreviewCall

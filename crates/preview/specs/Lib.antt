@@ -1,0 +1,2 @@
+pub mod Previewing
+pub mod Workings
