@@ -30,7 +30,7 @@ extern "C" {
 #define TRACE_CARD_ANSWER_LENGTH 24
 #define TRACE_CARD_PLAN_LENGTH 13
 #define TRACE_CARD_MOST_POINTS 8192
-#define TRACE_CARD_MOST_BYTES 32768
+#define TRACE_CARD_MOST_BYTES 36864
 #define TRACE_CARD_LINE_BYTES 25
 
 /* The numbers of an answer, in their order, with names. */
@@ -57,7 +57,8 @@ static inline struct trace_card_answer trace_card_answer_of(const uint64_t numbe
 }
 
 /* Writes a sheet of rows by cols samples: its coefficients, the values as they will be read, and the card at the front of output, which
- * has room for 32,768 bytes or more. */
+ * has room for 36,864 bytes or more. The card tells what each layer loses where low digits of it are missing, as measured: figures and plans of it go by
+ * that, and those of an older card, which does not tell it, by the most that can be lost. */
 uint64_t trace_card_write(const int32_t *samples, size_t samples_length, uint64_t rows, uint64_t cols, uint64_t levels, uint64_t curve,
     uint64_t step, int32_t *coefficients, size_t coefficients_length, int64_t *values, size_t values_length, uint8_t *output,
     size_t output_length, uint64_t *answer, size_t answer_length);

@@ -9,6 +9,7 @@ use std::time::Instant;
 use trace_card_tests::boundary::{self, ANSWER, PLAN};
 use trace_card_tests::fast;
 use trace_card_tests::model::roll::page_bytes;
+use trace_card_tests::model::write::OUTPUT_BYTES;
 use trace_card_tests::model::{Compared, Curve, Planned, Reached};
 use trace_card_tests::random::sheets::{sheet, Kind};
 use trace_card_tests::random::Random;
@@ -64,7 +65,7 @@ fn slices(points: usize) -> Slices {
         next: vec![0; points],
         second_coefficients: vec![0; points],
         second_values: vec![0; points],
-        output: vec![0; 32_768],
+        output: vec![0; OUTPUT_BYTES],
         page: vec![0; page_bytes(points)],
         apart: vec![0; points],
         answer: [0; ANSWER],

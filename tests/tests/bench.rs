@@ -5,19 +5,22 @@ mod common;
 
 use common::{bench, card_of, header_lines, highest_first, narrow, plan, refusal};
 use trace_card_tests::model::digits::{digits_of, weight};
-use trace_card_tests::model::figure::{carry, loss};
+use trace_card_tests::model::figure::carry;
+use trace_card_tests::model::losses::closed;
 use trace_card_tests::model::predict::cubic;
 use trace_card_tests::model::program::{shown, trace, trace_compare};
+use trace_card_tests::model::write::OUTPUT_BYTES;
 use trace_card_tests::model::{
-    figure, open, plan_by_cells, plan_by_limit, preview, read, refine, show, write, Curve, Reached,
-    Refusal,
+    figure, open, plan_by_cells, plan_by_limit, preview, read, refine, show, write, Curve, Opened,
+    Reached, Refusal,
 };
+use trace_card_tests::random::losses;
 
 #[test]
 fn one_by_five_is_written() {
     let mut coefficients = [99; 5];
     let mut values = [99; 5];
-    let mut output = vec![0x55; 32_768];
+    let mut output = vec![0x55; OUTPUT_BYTES];
     let length = write(
         &bench::SAMPLES,
         1,
@@ -29,11 +32,13 @@ fn one_by_five_is_written() {
         &mut values,
         &mut output,
     );
-    assert_eq!(length, Ok(bench::CARD_BYTES as u64));
+    assert_eq!(length, Ok(bench::WRITTEN_CARD_BYTES as u64));
     assert_eq!(coefficients, bench::COEFFICIENTS);
     assert_eq!(values, bench::VALUES);
-    let rest = output.split_off(bench::CARD_BYTES);
-    assert_eq!(output, bench::card());
+    let rest = output.split_off(bench::WRITTEN_CARD_BYTES);
+    assert_eq!(output, bench::written_card());
+    // The bench card is an old one: it has not the line, and all else.
+    assert_eq!(losses::old(&output), bench::card());
     assert!(rest.iter().all(|&byte| byte == 0x55));
 }
 
@@ -44,20 +49,47 @@ fn one_by_five_is_opened() {
     assert_eq!((opened.curve, opened.step), (Curve::Linear, 1));
     assert_eq!((&opened.planes[..], opened.cells), (&[5, 1, 0][..], 6));
     assert_eq!(opened.header_length, bench::HEADER_BYTES);
+    assert_eq!(opened.losses, None);
     assert_eq!(opened.print(), card_of(&bench::LINES, &[]));
+    let written = open(&bench::written_card()).unwrap();
+    assert_eq!(written.header_length, bench::WRITTEN_HEADER_BYTES);
+    let losses = vec![vec![1, 1, 3, 7, 5], vec![1], vec![]];
+    assert_eq!(written.losses, Some(losses.clone()));
+    assert_eq!(written.print(), card_of(&bench::written_lines(), &[]));
+    // Nothing else of it is another.
+    assert_eq!(
+        written,
+        Opened {
+            losses: Some(losses),
+            header_length: bench::WRITTEN_HEADER_BYTES,
+            ..opened
+        }
+    );
 }
 
 #[test]
-fn its_cuts_are_shown() {
-    let card = bench::card();
-    for shown in bench::shown() {
-        let (mut coefficients, mut values) = ([99; 5], [99; 5]);
-        let reached = show(&card[..shown.length], &mut coefficients, &mut values);
-        assert_eq!(reached, Ok(shown.reached));
-        assert_eq!((coefficients, values), (shown.coefficients, shown.values));
+fn their_cuts_are_shown() {
+    for (card, header, shown) in [
+        (bench::card(), bench::HEADER_BYTES, bench::shown()),
+        (
+            bench::written_card(),
+            bench::WRITTEN_HEADER_BYTES,
+            bench::written_shown(),
+        ),
+    ] {
+        for shown in shown {
+            let (mut coefficients, mut values) = ([99; 5], [99; 5]);
+            let reached = show(&card[..shown.length], &mut coefficients, &mut values);
+            assert_eq!(reached, Ok(shown.reached));
+            assert_eq!((coefficients, values), (shown.coefficients, shown.values));
+            let figure = figure(&card, &shown.reached.plan);
+            assert_eq!(figure, Ok(shown.reached.figure));
+        }
+        let cut_in_header = show(&card[..header - 1], &mut [99; 5], &mut [99; 5]);
+        assert_eq!(cut_in_header, Err(refusal(5, [0, 0])));
     }
-    let cut_in_header = show(&card[..63], &mut [99; 5], &mut [99; 5]);
-    assert_eq!(cut_in_header, Err(refusal(5, [0, 0])));
+    let lengths = bench::written_shown().map(|shown| shown.length);
+    assert_eq!(lengths, [273, 177, 176, 81]);
 }
 
 #[test]
@@ -91,14 +123,11 @@ fn its_cut_is_read_and_refined_to_the_same() {
     assert_eq!(figure(card, &plan(&[3])), Ok(10));
 }
 
-/// From three planes of the anchors, which the whole card has and its first 160 bytes too.
-#[test]
-fn one_plane_more_is_previewed() {
-    let card = bench::card();
-    let [_, shown, ..] = bench::shown();
+/// From three planes of the anchors, which the whole card has and its first 160 bytes, or 177, too.
+fn check_previews(card: &[u8], shown: &bench::Shown, previewed: [bench::Previewed; 2]) {
     let from = shown.reached.plan;
     let (mut coefficients, mut values) = ([99; 5], [99; 5]);
-    let reached = read(&card, &from, &mut coefficients, &mut values);
+    let reached = read(card, &from, &mut coefficients, &mut values);
     assert_eq!(reached, Ok(shown.reached));
     assert_eq!((coefficients, values), (shown.coefficients, shown.values));
     let look = |card: &[u8], layer| {
@@ -106,15 +135,23 @@ fn one_plane_more_is_previewed() {
         let answer = preview(card, &from, layer, &coefficients, &values, &mut next);
         (answer, next)
     };
-    for expected in bench::previewed() {
-        let found = look(&card, expected.layer);
+    for expected in previewed {
+        let found = look(card, expected.layer);
         assert_eq!(found, (Ok(expected.reached), expected.next));
         // Pulled, the card has no further plane.
         let found = look(&card[..shown.length], expected.layer);
         let refused = refusal(9, [expected.layer, 0]);
         assert_eq!(found, (Err(refused), [99; 5]));
     }
-    assert_eq!(look(&card, 2), (Err(refusal(9, [2, 0])), [99; 5]));
+    assert_eq!(look(card, 2), (Err(refusal(9, [2, 0])), [99; 5]));
+}
+
+#[test]
+fn one_plane_more_is_previewed() {
+    let [_, shown, ..] = bench::shown();
+    check_previews(&bench::card(), &shown, bench::previewed());
+    let [_, shown, ..] = bench::written_shown();
+    check_previews(&bench::written_card(), &shown, bench::written_previewed());
 }
 
 #[test]
@@ -130,6 +167,23 @@ fn its_plans() {
     for (cells, planned) in bench::planned_by_cells() {
         assert_eq!(plan_by_cells(&card, cells), Ok(planned));
     }
+}
+
+#[test]
+fn plans_of_the_card_written_now() {
+    let card = bench::written_card();
+    let header = &card[..bench::WRITTEN_HEADER_BYTES];
+    for (limit, planned) in bench::written_planned_by_limit() {
+        assert_eq!(plan_by_limit(&card, limit), Ok(planned));
+        assert_eq!(plan_by_limit(header, limit), Ok(planned));
+    }
+    assert_eq!(plan_by_limit(&card, 0), Err(refusal(10, [0, 0])));
+    for (cells, planned) in bench::written_planned_by_cells() {
+        assert_eq!(plan_by_cells(&card, cells), Ok(planned));
+    }
+    // The first plane of the anchors leaves more lost than none, four no less than three.
+    let figures = [0, 1, 2, 3, 4, 5].map(|planes| figure(&card, &plan(&[planes])));
+    assert_eq!(figures, [19, 25, 13, 7, 7, 4].map(Ok));
 }
 
 #[test]
@@ -167,7 +221,7 @@ fn the_narrow_example() {
 
 #[test]
 fn the_losses() {
-    let losses: Vec<u64> = (0..6).map(loss).collect();
+    let losses: Vec<u64> = (0..6).map(closed).collect();
     assert_eq!(losses, [0, 1, 2, 4, 8, 16]);
 }
 
@@ -192,7 +246,7 @@ fn write_zeros(
         step,
         &mut vec![0; count],
         &mut vec![0; count],
-        &mut vec![0; 32_768],
+        &mut vec![0; OUTPUT_BYTES],
     )
 }
 

@@ -15,6 +15,7 @@ use trace_card_tests::model::sheet::MOST_POINTS;
 use trace_card_tests::model::write::OUTPUT_BYTES;
 use trace_card_tests::model::{open, show, Refusal};
 use trace_card_tests::random::cases::{Case, LARGE_SIZES};
+use trace_card_tests::random::losses::any_kind;
 use trace_card_tests::random::sheets::Kind;
 use trace_card_tests::random::Random;
 
@@ -107,31 +108,43 @@ fn check(name: &str, card: &[u8]) {
 
 #[test]
 fn the_example_cards() {
-    for name in ["bench-160", "bench", "bench-fine", "axles-half", "axles"] {
+    for name in [
+        "bench-160",
+        "bench",
+        "bench-fine",
+        "axles-half",
+        "axles",
+        "hour-half",
+        "hour-half-old",
+    ] {
         let name = format!("examples/{name}.card");
         let (status, printed, said) = run(&[&file(&name)]);
         assert_eq!((status, printed, said), expected(&bytes(&name)), "{name}");
     }
 }
 
-/// The bench card at every cut, from the empty file to the whole card, and with bytes behind it.
+/// The bench card, and what is written for its samples now, at every cut, from the empty file to the whole card, and with
+/// bytes behind it.
 #[test]
 fn every_cut() {
-    let mut card = bench::card();
-    for length in 0..=card.len() {
-        check("cut.card", &card[..length]);
+    for mut card in [bench::card(), bench::written_card()] {
+        for length in 0..=card.len() {
+            check("cut.card", &card[..length]);
+        }
+        card.push(0);
+        check("cut.card", &card);
     }
-    card.push(0);
-    check("cut.card", &card);
 }
 
 #[test]
 fn every_damaged_byte() {
-    for place in 0..bench::CARD_BYTES {
-        for bit in [0, 7] {
-            let mut card = bench::card();
-            card[place] ^= 1 << bit;
-            check("damaged.card", &card);
+    for card in [bench::card(), bench::written_card()] {
+        for place in 0..card.len() {
+            for bit in [0, 7] {
+                let mut card = card.clone();
+                card[place] ^= 1 << bit;
+                check("damaged.card", &card);
+            }
         }
     }
 }
@@ -174,6 +187,7 @@ fn small_cards_whole_and_cut() {
     let mut random = Random::new(591);
     for _ in 0..100 {
         let card = Case::small(&mut random).write().card;
+        let card = any_kind(&mut random, card);
         check("small.card", &card);
         check("small.card", &card[..random.length(0, card.len())]);
     }

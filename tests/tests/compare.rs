@@ -5,6 +5,7 @@ mod common;
 use common::{bench, card_with, figure_by_hand, sizes_of, whole_in};
 use trace_card_tests::model::{compare, open, show, Compared};
 use trace_card_tests::random::cases::{small_size, Case, LARGE_SIZES};
+use trace_card_tests::random::losses::{any_kind, old};
 use trace_card_tests::random::sheets::{sheet, Kind};
 use trace_card_tests::random::Random;
 
@@ -185,7 +186,8 @@ fn coefficients_made_up() {
                 .collect();
             let (levels, step) = (random.below(4), random.pick(&[0, 1, 2, 300, 65_535]));
             let curve = random.pick(&["linear", "cubic"]);
-            let mut card = card_with((rows, cols), levels, curve, step, &coefficients);
+            let card = card_with((rows, cols), levels, curve, step, &coefficients);
+            let mut card = any_kind(&mut random, card);
             let header = open(&card).unwrap().header_length;
             if random.once_in(2) {
                 card.truncate(random.length(header, card.len()));
@@ -239,9 +241,13 @@ fn alike(random: &mut Random, (rows, cols): (u64, u64)) -> [Case; 2] {
     cases
 }
 
-/// The card of a sheet, whole or cut anywhere from the end of its header on.
+/// The card of a sheet, or that which an old writer would have written, whole or cut anywhere from the end of its
+/// header on.
 fn cut(random: &mut Random, case: &Case) -> Vec<u8> {
     let mut card = case.write().card;
+    if random.once_in(3) {
+        card = old(&card);
+    }
     let header = open(&card).unwrap().header_length;
     let length = match random.below(4) {
         0 => card.len(),

@@ -8,11 +8,13 @@ use common::{
     sizes_of, whole_in,
 };
 use trace_card_tests::model::digits::high;
+use trace_card_tests::model::write::OUTPUT_BYTES;
 use trace_card_tests::model::{
     figure, open, plan_by_limit, read, refine, show, write, Curve, Opened, Plan, Reached, Refusal,
     MAX_LAYERS,
 };
 use trace_card_tests::random::cases::{shapes_at_narrow_edge, Case, CURVES, LARGE_SIZES};
+use trace_card_tests::random::losses;
 use trace_card_tests::random::plans::plan_of_most;
 use trace_card_tests::random::sheets::{sheet, Kind, KINDS};
 use trace_card_tests::random::Random;
@@ -51,12 +53,18 @@ fn show_all(case: &Case, card: &[u8]) -> Result<Read, Refusal> {
     })
 }
 
+/// The line of losses of a card, without its end.
+fn line_of(card: &[u8]) -> &[u8] {
+    let mut lines = card.split(|&byte| byte == 10);
+    lines.nth(6).expect("a line between planes and cells")
+}
+
 /// A whole card gives back what the writer left, and its values give back the card.
 fn check_whole_card(case: &Case) {
     let written = case.write();
     let card = &written.card;
     let opened = open(card).unwrap();
-    assert!(card.len() <= 32_768 && opened.cells <= 1012);
+    assert!(card.len() <= OUTPUT_BYTES && opened.cells <= 1012);
     assert_eq!(
         card.len(),
         opened.header_length + 32 * opened.cells as usize
@@ -67,6 +75,13 @@ fn check_whole_card(case: &Case) {
     );
     assert_eq!((opened.curve, opened.step), (case.curve, case.step));
     assert_eq!(card[..opened.header_length], opened.print());
+    let losses: Vec<usize> = opened.losses.iter().flatten().map(Vec::len).collect();
+    let planes: Vec<usize> = opened
+        .planes
+        .iter()
+        .map(|&planes| planes as usize)
+        .collect();
+    assert_eq!(losses, planes);
 
     let full = read_with(case, card, &plan(&opened.planes)).unwrap();
     assert_eq!(full.coefficients, written.coefficients);
@@ -75,9 +90,17 @@ fn check_whole_card(case: &Case) {
     assert_eq!(full.reached.figure, case.step);
     assert!(furthest(&full.values, &case.samples) <= case.step);
     assert_eq!(show_all(case, card).unwrap(), full);
+    // What is read of a whole card is the same whatever its line of losses says, or where it has none.
+    let old = losses::old(card);
+    assert_eq!(open(&old).unwrap().losses, None);
+    assert_eq!(old.len() + line_of(card).len() + 1, card.len());
+    assert_eq!(show_all(case, &old).unwrap(), full);
+    let other = losses::with_losses(card, &losses::most(&opened));
+    assert_eq!(show_all(case, &other).unwrap(), full);
 
     // Written again from its own values the card is the same: what is left over in the
-    // first division is then e, which is below w. Values past the range are refused.
+    // first division is then e, which is below w. Values past the range are refused. So a card with another line,
+    // or with none, gets the measured one, and keeps all else.
     let range = -1_048_575..=1_048_575;
     match full.values.iter().position(|value| !range.contains(value)) {
         None => {
@@ -87,6 +110,7 @@ fn check_whole_card(case: &Case) {
             };
             let again = again.write();
             assert_eq!(&again.card, card);
+            assert_eq!(losses::with_line(&old, line_of(&again.card)), again.card);
             assert_eq!(again.values, written.values);
             assert_eq!(again.coefficients, written.coefficients);
         }
@@ -102,7 +126,7 @@ fn check_whole_card(case: &Case) {
                 case.step,
                 &mut vec![0; case.count()],
                 &mut vec![0; case.count()],
-                &mut vec![0; 32_768],
+                &mut vec![0; OUTPUT_BYTES],
             );
             assert_eq!(refused, Err(refusal(4, [row, col])));
         }
@@ -398,7 +422,7 @@ fn the_figure_is_used_up_at_every_cut_of_a_linear_sheet() {
             samples: above.map(|sample| sample as i32).collect(),
         };
         let card = case.write().card;
-        assert_eq!(card, made);
+        assert_eq!(losses::old(&card), made);
         let opened = open(&card).unwrap();
         for length in (opened.header_length..=card.len()).step_by(32) {
             let shown = show_all(&case, &card[..length]).unwrap();
@@ -406,6 +430,33 @@ fn the_figure_is_used_up_at_every_cut_of_a_linear_sheet() {
             assert_eq!(worst, shown.reached.figure, "{rows} by {cols}, {length}");
         }
     }
+}
+
+/// Any card shown within its own figure: pulled where its writer's losses are much smaller than the closed ones.
+#[test]
+fn figures_by_measured_losses_are_smaller_and_hold() {
+    let mut random = Random::new(213);
+    let (mut smaller, mut alike) = (0, 0);
+    for _ in 0..1500 {
+        let case = Case::small(&mut random);
+        let card = case.write().card;
+        let opened = open(&card).unwrap();
+        let length = random.length(opened.header_length, card.len());
+        let shown = show_all(&case, &card[..length]).unwrap();
+        assert!(furthest(&shown.values, &case.samples) <= shown.reached.figure);
+        let old = losses::old(&card);
+        let cut = &old[..length - line_of(&card).len() - 1];
+        let of_old = show_all(&case, cut).unwrap();
+        assert_eq!(of_old.reached.plan, shown.reached.plan);
+        assert_eq!(of_old.coefficients, shown.coefficients);
+        assert_eq!(of_old.values, shown.values);
+        assert!(shown.reached.figure <= of_old.reached.figure);
+        match shown.reached.figure < of_old.reached.figure {
+            true => smaller += 1,
+            false => alike += 1,
+        }
+    }
+    assert!(smaller > 300 && alike > 100, "{smaller} {alike}");
 }
 
 /// A limit worth asking for: the step, or about the figure of some plan.

@@ -10,8 +10,9 @@ use trace_card_tests::boundary::ANSWER;
 use trace_card_tests::model::digits::{
     digits_of, high, low, middle, weight, GREATEST_COEFFICIENT, LEAST_COEFFICIENT, MOST_DIGITS,
 };
-use trace_card_tests::model::figure::{carry, is_narrow, layer_carry, loss};
+use trace_card_tests::model::figure::{carry, is_narrow, layer_carry};
 use trace_card_tests::model::header::print;
+use trace_card_tests::model::losses::{closed as loss, measured, said as loss_of};
 use trace_card_tests::model::planes::{card_order, cells_of_plane, CELL_BYTES};
 use trace_card_tests::model::predict::{cubic, predict};
 use trace_card_tests::model::program::{trace, trace_compare};
@@ -32,6 +33,7 @@ use trace_card_tests::model::{
     Compared, Curve, Opened, Plan, Planned, Reached, Refusal, MAX_LAYERS,
 };
 use trace_card_tests::random::cases::{Case, Written};
+use trace_card_tests::random::losses::{most, old, with_losses};
 use trace_card_tests::random::Random;
 
 #[test]
@@ -170,7 +172,15 @@ fn the_cells_of_a_card() {
     let (rows, cols, levels) = (MOST_POINTS, MOST_POINTS, MOST_LEVELS);
     let shape = Shape { rows, cols, levels };
     let planes = [MOST_DIGITS; MAX_LAYERS];
-    let header = print(shape, Curve::Linear, LARGEST_STEP, &planes, cells);
+    let losses = vec![(1..=MOST_DIGITS).map(loss).collect(); MAX_LAYERS];
+    let header = print(
+        shape,
+        Curve::Linear,
+        LARGEST_STEP,
+        &planes,
+        Some(&losses),
+        cells,
+    );
     assert!(header.len() + (cells * CELL_BYTES) as usize <= OUTPUT_BYTES);
     let (cells, bytes) = (grouped(cells), grouped(OUTPUT_BYTES));
     let words = format!("A card has at most {cells} cells and at most {bytes} bytes.");
@@ -179,11 +189,67 @@ fn the_cells_of_a_card() {
 
 #[test]
 fn the_lines_of_a_header() {
-    let header = open(&bench::card()).unwrap().print();
+    let part = section("7. The card");
+    let header = open(&bench::written_card()).unwrap().print();
     for (line, number) in String::from_utf8(header).unwrap().lines().zip(1..) {
         let (key, _) = line.split_once('=').unwrap();
-        says(&section("7. The card"), &format!("| {number} | `{key}` |"));
+        says(&part, &format!("| {number} | `{key}` |"));
     }
+    // An old card's header has all of these lines but one.
+    let lines = bench::card().split(|&byte| byte == 10).count() - 1;
+    assert_eq!(lines, 7);
+    assert!(bench::LINES[lines - 1].starts_with(b"cells="));
+    assert!(open(&bench::card()).unwrap().losses.is_none());
+    let words = format!(
+        "An *old card*, written before losses were measured, has no line `loss`, and its line \
+         {lines} is `cells`. A card is an old one exactly where its line {lines} does not begin \
+         with `loss=`."
+    );
+    says(&part, &words);
+}
+
+/// The numbers of the line for layer k and d = 1 to P_k, by their places in it.
+#[test]
+fn the_line_of_losses() {
+    let mut random = Random::new(702);
+    for _ in 0..100 {
+        let card = Case::small(&mut random).write().card;
+        let opened = open(&card).unwrap();
+        let line = card.split(|&byte| byte == 10).nth(6).unwrap();
+        let line = std::str::from_utf8(line).unwrap();
+        let numbers: Vec<u64> = line["loss=".len()..]
+            .split(',')
+            .filter(|text| !text.is_empty())
+            .map(|text| text.parse().unwrap())
+            .collect();
+        let mut place = 0;
+        for (layer, &planes) in opened.planes.iter().enumerate() {
+            for d in 1..=planes {
+                assert_eq!(loss_of(&opened, layer, d), numbers[place]);
+                assert!(numbers[place] <= loss(d));
+                place += 1;
+            }
+            assert_eq!(loss_of(&opened, layer, 0), 0);
+        }
+        assert_eq!(place, numbers.len());
+        let old = open(&old(&card)).unwrap();
+        for (layer, &planes) in old.planes.iter().enumerate() {
+            assert!((0..=planes).all(|d| loss_of(&old, layer, d) == loss(d)));
+        }
+    }
+    let words = "for each layer in order, for d = 1 to P_k, its measured loss for d digits \
+                 (section 9), commas between all of them; nothing where there are no planes |";
+    says(&section("7. The card"), words);
+    let part = section("9. The figure");
+    let words = "Its *measured loss* for d digits is the largest distance met, over its points, \
+                 between what the d low digits of the coefficient come to and middle(d). The \
+                 writer measures it for d = 1 to P_k and puts it on the card (section 7). It is \
+                 never above loss(d).";
+    says(&part, words);
+    let words = "loss_k(d) is what layer k of a card loses: 0 where d is 0, otherwise the number of \
+                 its line `loss` for layer k and d; of an old card, which has no such line, loss(d).";
+    says(&part, words);
+    says(&part, "Then the layer adds its own loss_k(d) × w.");
 }
 
 #[test]
@@ -264,12 +330,18 @@ fn the_refusals() {
     let part = section("11. Refusals");
     for words in [
         format!("| {HEADER_CUT} | there is no byte 10"),
-        format!("| {HEADER_LINE} | the line is not right: | which line, 1 to 7 |"),
+        format!("| {HEADER_LINE} | the line is not right: | which line, 1 to 8 |"),
         format!("lines 1 and 2: the size is not from 1 to {points}"),
         format!("R × C is above {points} |"),
         format!("the levels are above {MOST_LEVELS}; line 4: neither curve;"),
         format!("line 5: the step is above {step} |"),
         format!("a count above {MOST_DIGITS},"),
+        "line 7, where it begins with `loss=`: not one number for each layer and each d from 1 to \
+         P_k, or a number above 2^(d-1) |"
+            .to_string(),
+        "line 8 behind a line of losses, otherwise line 7: another number of cells than the counts \
+         of line 6 make |"
+            .to_string(),
         format!("| {BYTES_AFTER} | after all lines: there are bytes behind"),
         format!("**Writing.** {SHEET_SIZE}: R or C is 0, or R × C is above {points}."),
         format!("{LEVELS_OR_STEP}: L is above {MOST_LEVELS}, or e above {step}."),
@@ -521,6 +593,7 @@ fn said(plan: &Plan) -> String {
 }
 
 impl Example {
+    /// As it is written now.
     fn new(title: &str, curve: Curve, step: u64, samples: &[i32]) -> Example {
         let case = Case {
             rows: 1,
@@ -539,8 +612,34 @@ impl Example {
         }
     }
 
+    fn with_card(self, card: Vec<u8>) -> Example {
+        let opened = open(&card).unwrap();
+        let written = Written {
+            card,
+            ..self.written
+        };
+        Example {
+            written,
+            opened,
+            ..self
+        }
+    }
+
+    /// An old card.
     fn bench() -> Example {
-        Example::new("The bench card", Curve::Linear, 1, &bench::SAMPLES)
+        let written = Example::new("The bench card", Curve::Linear, 1, &bench::SAMPLES);
+        let card = old(&written.written.card);
+        written.with_card(card)
+    }
+
+    fn written_now() -> Example {
+        let title = "The same samples, written now";
+        Example::new(title, Curve::Linear, 1, &bench::SAMPLES)
+    }
+
+    /// What its layers lose, where a plan leaves planes out.
+    fn lost(&self, plan: &Plan) -> [u64; 2] {
+        [0, 1].map(|layer| loss_of(&self.opened, layer, self.opened.planes[layer] - plan[layer]))
     }
 
     fn fine() -> Example {
@@ -806,6 +905,165 @@ fn the_bench_card_is_planned() {
     ));
 }
 
+/// The measured losses of the bench card's samples, digit by digit.
+#[test]
+fn the_losses_of_the_same_samples() {
+    let now = Example::written_now();
+    let [anchors, others] = now.columns();
+    let coefficients = |columns: &[usize]| -> Vec<i64> {
+        let of_layer = at(columns, &now.written.coefficients);
+        of_layer.into_iter().map(i64::from).collect()
+    };
+    let (first, second) = (coefficients(&anchors), coefficients(&others));
+    let planes = &now.opened.planes;
+    let digits = |q: i64, d: u64| (0..d).map(move |p| digits_of(q).get(p as usize) == Some(&1));
+    let highest_first = |q: i64| -> String {
+        let digits: Vec<bool> = digits(q, planes[0]).collect();
+        let digits = digits.into_iter().rev();
+        digits.map(|digit| if digit { '1' } else { '0' }).collect()
+    };
+    let written: Vec<String> = first.iter().map(|&q| highest_first(q)).collect();
+    now.says(&format!(
+        "The anchors' coefficients are {}, in five digits {}:",
+        listed(&first),
+        listed(&written),
+    ));
+    let come_to = |q: i64, d: u64| -> i64 {
+        let places = digits(q, d).zip(0..);
+        places
+            .filter(|(digit, _)| *digit)
+            .map(|(_, p)| weight(p))
+            .sum()
+    };
+    let losses = measured(&first, planes[0]);
+    for (&loss, d) in losses.iter().zip(1..) {
+        let low: Vec<i64> = first.iter().map(|&q| come_to(q, d)).collect();
+        let distance = low.iter().map(|low| low.abs_diff(middle(d))).max();
+        assert_eq!(distance, Some(loss));
+        now.says(&format!(
+            "| {d} | {} | {} | {loss} |",
+            listed(&low),
+            middle(d),
+        ));
+    }
+    assert!(losses[4] < losses[3]);
+    assert_eq!(planes[1..], [1, 0]);
+    let header = now.header();
+    let lines: Vec<&str> = header.lines().collect();
+    now.says(&format!(
+        "All five lose less than four of them. The one digit of layer 1 is {} or {}, with the \
+         middle {}: it loses {}. So `{}` stands behind `{}`, and `{}` is line 8: the header has {} \
+         bytes and the card {}.",
+        second[0],
+        second[1],
+        middle(1),
+        measured(&second, 1)[0],
+        lines[6],
+        lines[5],
+        lines[7],
+        header.len(),
+        now.written.card.len(),
+    ));
+}
+
+#[test]
+fn the_same_samples_are_pulled() {
+    let (bench, now) = (Example::bench(), Example::written_now());
+    let (e, w) = (1, width(1));
+    let three = now.pulled(177).unwrap();
+    let of_bench = bench.pulled(160).unwrap();
+    assert_eq!(
+        (&three.0, &three.1, three.2.plan),
+        (&of_bench.0, &of_bench.1, of_bench.2.plan)
+    );
+    let [own, across] = now.lost(&three.2.plan);
+    let [two, none] = [176, 81].map(|length| now.pulled(length).unwrap().2);
+    assert_eq!(none.plan, [0; MAX_LAYERS]);
+    now.says(&format!(
+        "Pulled at byte 177 it holds {} planes: plan, coefficients and values are those of the bench \
+         card pulled at byte 160, and the figure is {e} + ({own} × {w} + {across} × {w}) = {}. At \
+         byte 176: plan {}, figure {}. At byte 81: no planes, figure {}. At byte 80 the header is \
+         cut: refusal {}.",
+        three.2.plan.iter().sum::<u64>(),
+        three.2.figure,
+        said(&two.plan),
+        two.figure,
+        none.figure,
+        now.pulled(80).unwrap_err().number,
+    ));
+    let first = plan(&[1]);
+    let more = figure(&now.written.card, &first).unwrap();
+    let [own, across] = now.lost(&first);
+    assert!(more > none.figure);
+    now.says(&format!(
+        "With the first plane of the anchors alone, plan {}, the figure is {e} + ({own} × {w} + \
+         {across} × {w}) = {more}, more than with none.",
+        said(&first),
+    ));
+}
+
+#[test]
+fn the_same_samples_are_planned() {
+    let now = Example::written_now();
+    let card = &now.written.card;
+    let [nine, four, one] = [9, 4, 1].map(|limit| plan_by_limit(card, limit).unwrap());
+    let other = plan(&[4, 1]);
+    assert_eq!(figure(card, &other), Ok(four.figure));
+    assert_eq!(
+        other.iter().sum::<u64>(),
+        four.cells + 1,
+        "a plane is a cell"
+    );
+    assert_eq!(one.cells, now.opened.cells);
+    let [least, most] = [1, 5].map(|cells| plan_by_cells(card, cells).unwrap());
+    now.says(&format!(
+        "By limit 9 the plan is {} with {} cells and the figure {}. By limit 4 it is {} with {} \
+         cells and the figure {}; {} has the same figure and a cell more. By limit 1 it is {}, all \
+         {} cells. By limit 0, refusal {}. In 1 cell it is {} with the figure {}, and in 5 cells {} \
+         with the figure {}.",
+        said(&nine.plan),
+        nine.cells,
+        nine.figure,
+        said(&four.plan),
+        four.cells,
+        four.figure,
+        said(&other),
+        said(&one.plan),
+        one.cells,
+        plan_by_limit(card, 0).unwrap_err().number,
+        said(&least.plan),
+        least.figure,
+        said(&most.plan),
+        most.figure,
+    ));
+}
+
+/// Another line is read by its own numbers, and written back as measured.
+#[test]
+fn another_line_for_the_same_samples() {
+    let (bench, now) = (Example::bench(), Example::written_now());
+    let closed = most(&now.opened);
+    let card = with_losses(&now.written.card, &closed);
+    for planes in 0..=now.opened.planes[0] {
+        let plan = plan(&[planes]);
+        assert_eq!(figure(&card, &plan), figure(&bench.written.card, &plan));
+    }
+    let (mut coefficients, mut values) = ([0; 5], [0; 5]);
+    for card in [&card, &bench.written.card] {
+        show(card, &mut coefficients, &mut values).unwrap();
+        let again = Case {
+            samples: values.map(|value| value as i32).to_vec(),
+            ..now.case.clone()
+        };
+        assert_eq!(again.write().card, now.written.card);
+    }
+    now.says(&format!(
+        "A card with the line `loss={}` in its place is read too, and has the figures of the bench \
+         card. Its values written back give the card above, and so do those of the bench card.",
+        joined(&closed, ","),
+    ));
+}
+
 /// From three planes of its anchors, with a plane more of each layer.
 #[test]
 fn the_bench_card_is_previewed() {
@@ -904,10 +1162,11 @@ fn the_finer_card_is_written() {
     let header = fine.header();
     let lines: Vec<&str> = header.lines().collect();
     fine.says(&format!(
-        "Digits, highest first: {}. So `{}` and `{}`: the header has {} bytes and the card {}.",
+        "Digits, highest first: {}. So `{}`, `{}` and `{}`: the header has {} bytes and the card {}.",
         fine.digits(),
         lines[5],
         lines[6],
+        lines[7],
         header.len(),
         card.len(),
     ));
@@ -1007,9 +1266,10 @@ fn the_planes_of_the_cubic_example() {
     let header = cubic.header();
     let lines: Vec<&str> = header.lines().collect();
     cubic.says(&format!(
-        "Digits, highest first: {}. So `{}` and `{}`.",
+        "Digits, highest first: {}. So `{}` and `{}`, and between them `{}`.",
         cubic.digits(),
         lines[5],
+        lines[7],
         lines[6],
     ));
     let planes = cubic.planes();
@@ -1026,15 +1286,9 @@ fn the_planes_of_the_cubic_example() {
 #[test]
 fn the_figures_of_the_cubic_example() {
     let cubic = Example::cubic();
-    let figure = |plan| figure(&cubic.written.card, plan).unwrap();
-    let none = plan(&[]);
-    let some = plan(&[1, 2]);
-    // The digits that the layers miss, and what the first has lost and the second carries.
-    let lost = |plan: &Plan| {
-        let [first, second] = [0, 1].map(|layer| cubic.opened.planes[layer] - plan[layer]);
-        (first, second, loss(first), carry(Curve::Cubic, loss(first)))
-    };
-    let (first, second, own, carried) = lost(&none);
+    let (none, some) = (plan(&[]), plan(&[1, 2]));
+    let missing = |plan: &Plan| [0, 1].map(|layer| cubic.opened.planes[layer] - plan[layer]);
+    let [first, second] = missing(&none);
     let (_, values, _) = cubic.pulled(cubic.opened.header_length).unwrap();
     let anchor = middle(first);
     let [anchors, others] = cubic.columns();
@@ -1043,21 +1297,40 @@ fn the_figures_of_the_cubic_example() {
     assert!(at(&others, &values).iter().all(|&value| value == other));
     cubic.says(&format!(
         "With no planes the anchors are middle({first}) = {anchor}, every other column is predicted \
-         as {anchor} and adds middle({second}) = {}: the values are {}. The figure is {}: layer 0 \
-         has lost loss({first}) = {own}, which layer 1 carries to {} / 4 rounded up, {carried}, and \
-         adds loss({second}) = {}.",
+         as {anchor} and adds middle({second}) = {}: the values are {}.",
         middle(second),
         joined(&values, " "),
-        figure(&none),
-        5 * own,
-        loss(second),
     ));
-    let (_, second, own, carried) = lost(&some);
+
+    let carried = |lost| carry(Curve::Cubic, lost);
+    let of = |example: &Example, plan| figure(&example.written.card, plan).unwrap();
+    let ([own, across], [own_some, across_some]) = (cubic.lost(&none), cubic.lost(&some));
     cubic.says(&format!(
-        "With {} it is {}: {own} is carried to {carried}, and loss({second}) = {}.",
+        "The figure is {}: layer 0 has lost {own}, which layer 1 carries to {} / 4 rounded up, {}, \
+         and adds {across}. With {} it is {}: {own_some} is carried to {}, and layer 1 adds \
+         {across_some}.",
+        of(&cubic, &none),
+        5 * own,
+        carried(own),
         said(&some),
-        figure(&some),
-        loss(second),
+        of(&cubic, &some),
+        carried(own_some),
+    ));
+
+    let card = old(&cubic.written.card);
+    let cubic = cubic.with_card(card);
+    let [_, second_of_some] = [0, 1].map(|layer| cubic.opened.planes[layer] - some[layer]);
+    let ([own, across], [own_some, across_some]) = (cubic.lost(&none), cubic.lost(&some));
+    cubic.says(&format!(
+        "On an old card of these planes the figure with none of them is {}: loss({first}) = {own} is \
+         carried to {} / 4 rounded up, {}, and loss({second}) = {across}. With {} it is {}: \
+         {own_some} is carried to {}, and loss({second_of_some}) = {across_some}.",
+        of(&cubic, &none),
+        5 * own,
+        carried(own),
+        said(&some),
+        of(&cubic, &some),
+        carried(own_some),
     ));
 }
 
@@ -1076,7 +1349,7 @@ fn the_layers_of_the_narrow_example() {
     assert!(cols <= 6 * second && (6 * second + 1..=6 * first).contains(&rows));
     let words = format!(
         "Seven rows of five samples; {levels} levels, cubic, step {step}, so w = {}, and \
-         `planes={}`. The {cols} columns are at most 6s where s = {first} and where s = {second}, \
+         `planes={}` on an old card. The {cols} columns are at most 6s where s = {first} and where s = {second}, \
          and the {rows} rows are at most {} and more than {}: layers {} are narrow, and layer {} \
          is not.",
         width(step),

@@ -8,8 +8,12 @@ use common::missing::{any_coefficients, every_missing, made_up};
 use common::previews::{any_preview, faulty_previews, Preview};
 use trace_card_tests::fast;
 use trace_card_tests::model::roll::page_bytes;
+use trace_card_tests::model::write::OUTPUT_BYTES;
 use trace_card_tests::model::{self, open, Compared, Plan, Reached, Refusal};
 use trace_card_tests::random::cases::{shapes_at_narrow_edge, Case, CURVES, LARGE_SIZES};
+use trace_card_tests::random::damage::{damage_header, damaged_at};
+use trace_card_tests::random::losses::any_kind;
+use trace_card_tests::random::sheets::Kind;
 use trace_card_tests::random::Random;
 
 type Show = fn(&[u8], &mut [i32], &mut [i64]) -> Result<Reached, Refusal>;
@@ -57,7 +61,7 @@ fn check_preview(given: &Preview) -> Result<Reached, Refusal> {
 fn check(random: &mut Random, case: &Case) {
     let n = case.count();
     let (mut coefficients, mut values) = (vec![7; n], vec![7; n]);
-    let mut output = vec![0xA7; 32_768];
+    let mut output = vec![0xA7; OUTPUT_BYTES];
     let length = fast::write(
         &case.samples,
         case.rows,
@@ -72,12 +76,10 @@ fn check(random: &mut Random, case: &Case) {
     let written = case.write();
     assert_eq!(length, Ok(written.card.len() as u64));
     assert_eq!(output[..written.card.len()], written.card);
-    assert_eq!(
-        (&coefficients, &values),
-        (&written.coefficients, &written.values)
-    );
+    assert_eq!(coefficients, written.coefficients);
+    assert_eq!(values, written.values);
 
-    let card = &written.card;
+    let card = &any_kind(random, written.card);
     let opened = open(card).unwrap();
     let cut = &card[..random.length(opened.header_length, card.len())];
     let (mut theirs_q, mut theirs_v) = (vec![9; n], vec![9; n]);
@@ -128,6 +130,7 @@ fn missing_digits_of_made_up_cards() {
     for size in [(1, 65), (66, 1), (33, 34)] {
         for (curve, step) in [("linear", 0), ("cubic", 1), ("cubic", 65_535)] {
             let (coefficients, card) = made_up(&mut random, size, 6, curve, step);
+            let card = any_kind(&mut random, card);
             let opened = open(&card).unwrap();
             let points = coefficients.len();
             for plan in every_missing(&opened) {
@@ -165,7 +168,8 @@ fn previews_taken_and_refused() {
     let mut met = [0; 12];
     for _ in 0..3000 {
         let case = Case::small(&mut random);
-        let given = any_preview(&mut random, case.write().card, case.count());
+        let card = any_kind(&mut random, case.write().card);
+        let given = any_preview(&mut random, card, case.count());
         let refused = check_preview(&given).err();
         met[refused.map_or(0, |refused| refused.number) as usize] += 1;
     }
@@ -215,6 +219,62 @@ fn as_the_model() {
         for curve in CURVES {
             let case = Case::of_shape(&mut random, shape, curve);
             check(&mut random, &case);
+        }
+    }
+}
+
+/// Coefficients near each other and far from it, many and few: whatever the digits, the losses are as measured by the
+/// model, since the cards are alike.
+#[test]
+fn losses_of_every_number_of_digits() {
+    let mut random = Random::new(567);
+    for bits in 0..=21 {
+        for (rows, cols) in [(1, 1), (1, 15), (3, 87), (17, 31), (64, 128)] {
+            let (noise, rough) = (random.below(1 << bits) as i64, 1 << bits);
+            let base = random.between(-500_000, 500_000);
+            for most in [0, noise, rough] {
+                let mut case = Case::of_size(&mut random, rows, cols);
+                case.step = random.pick(&[0, 0, 1, 30]);
+                for sample in &mut case.samples {
+                    let near = base + random.between(-most, most);
+                    *sample = near.clamp(-1_048_575, 1_048_575) as i32;
+                }
+                check(&mut random, &case);
+            }
+        }
+    }
+    for kind in [Kind::Ends, Kind::Board, Kind::Stripes] {
+        for levels in 0..=6 {
+            let mut case = Case::of_kind(&mut random, kind, 64, 128);
+            (case.levels, case.step) = (levels, 0);
+            check(&mut random, &case);
+        }
+    }
+}
+
+/// Headers of both kinds damaged at every byte and at some; whatever opens is planned alike.
+#[test]
+fn damaged_headers() {
+    let mut random = Random::new(568);
+    let plan = |card: &[u8]| {
+        assert_eq!(fast::plan_by_cells(card, 3), model::plan_by_cells(card, 3));
+    };
+    for round in 0..400 {
+        let card = Case::small(&mut random).write().card;
+        let card = any_kind(&mut random, card);
+        let header = open(&card).unwrap().header_length;
+        for _ in 0..20 {
+            let mut damaged = card.clone();
+            damage_header(&mut random, &mut damaged, header);
+            plan(&damaged);
+            plan(&damaged[..random.length(0, header)]);
+        }
+        if round < 10 {
+            for position in 0..header {
+                for damaged in damaged_at(&card, position, b"0123456789,=\n-+ los") {
+                    plan(&damaged);
+                }
+            }
         }
     }
 }
@@ -310,7 +370,7 @@ fn comparisons_of_written_cards() {
         }
         let points = [case.count(), other.count()];
         let cards = [case, other].map(|case| {
-            let mut card = case.write().card;
+            let mut card = any_kind(&mut random, case.write().card);
             let header = open(&card).unwrap().header_length;
             if random.once_in(3) {
                 card.truncate(random.length(header, card.len()));

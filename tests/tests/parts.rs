@@ -5,7 +5,8 @@ mod common;
 use common::missing::{every_missing, made_up, plain};
 use common::{layer_of, layer_places, loss_by_hand, middle_by_hand, plan, planes_on_card};
 use trace_card_tests::model::digits::{digits_of, high, low, middle, weight};
-use trace_card_tests::model::figure::{carry, is_narrow, loss};
+use trace_card_tests::model::figure::{carry, is_narrow};
+use trace_card_tests::model::losses::{closed, measured};
 use trace_card_tests::model::predict::{cubic, linear, neighbours};
 use trace_card_tests::model::sheet::Shape;
 use trace_card_tests::model::{open, read, Curve, Plan};
@@ -82,18 +83,41 @@ fn the_middle_and_the_most_that_is_lost() {
         let halves = least + greatest;
         assert!(2 * middle(d) <= halves && halves < 2 * (middle(d) + 1));
         let furthest = sums.iter().map(|sum| sum.abs_diff(middle(d))).max();
-        assert_eq!(Some(loss(d)), furthest);
+        assert_eq!(Some(closed(d)), furthest);
         // The furthest is the greatest, and the least is one nearer.
-        assert_eq!(greatest.abs_diff(middle(d)), loss(d));
-        assert_eq!(middle(d).abs_diff(least), loss(d).saturating_sub(1));
+        assert_eq!(greatest.abs_diff(middle(d)), closed(d));
+        assert_eq!(middle(d).abs_diff(least), closed(d).saturating_sub(1));
     }
     for d in 0..=23 {
         assert_eq!(middle(d), middle_by_hand(d));
-        assert_eq!(loss(d), loss_by_hand(d));
+        assert_eq!(closed(d), loss_by_hand(d));
     }
     let middles: Vec<i64> = (0..8).map(middle).collect();
     assert_eq!(middles, [0, 0, -1, 1, -3, 5, -11, 21]);
     assert_eq!(middle(23), 1_398_101);
+}
+
+/// Of any numbers, a few of them, so that most are further from the closed loss than a layer is.
+#[test]
+fn losses_are_the_least_numbers_that_hold() {
+    let mut random = Random::new(107);
+    let mut smaller = 0;
+    for _ in 0..2000 {
+        let digits = random.below(23);
+        let of_layer: Vec<i64> = (0..1 + random.below(5))
+            .map(|_| random.between(-(1 << digits), 1 << digits).max(-2_796_202))
+            .collect();
+        let losses = measured(&of_layer, 23);
+        check_losses(&losses, &of_layer);
+        smaller += losses.windows(2).filter(|pair| pair[1] < pair[0]).count();
+    }
+    // A longer drop loses less than a shorter one now and then.
+    assert!(smaller > 1000, "{smaller}");
+    assert_eq!(measured(&[], 23), [0; 23]);
+    for d in 1..=23 {
+        assert_eq!(measured(&[high(d)], d).last(), Some(&closed(d)));
+        assert_eq!(measured(&[middle(d)], d).last(), Some(&0));
+    }
 }
 
 #[test]
@@ -192,6 +216,23 @@ fn digits_reaching(coefficients: &[i64]) -> u64 {
     digits
 }
 
+/// How far the d low digits of q are from their middle. They are the one number that d digits can be and that differs
+/// from q by a multiple of 2^d.
+fn away(d: u64, q: i64) -> u64 {
+    let (least, numbers) = (low(d), 1_i64 << d);
+    let digits = least + (q - least).rem_euclid(numbers);
+    digits.abs_diff(middle_by_hand(d))
+}
+
+/// Every loss of a layer with these coefficients is met by one of them, and none is further off.
+fn check_losses(losses: &[u64], of_layer: &[i64]) {
+    for (&loss, d) in losses.iter().zip(1..) {
+        let met = of_layer.iter().map(|&q| away(d, q)).max();
+        assert_eq!(met, Some(loss), "{d} digits");
+        assert!(loss <= loss_by_hand(d));
+    }
+}
+
 fn check_by_the_rules(case: &Case, written: &Written) {
     let e = case.step as i64;
     let w = 2 * e + 1;
@@ -214,6 +255,9 @@ fn check_by_the_rules(case: &Case, written: &Written) {
             .map(|&place| i64::from(written.coefficients[place]))
             .collect();
         assert_eq!(opened.planes[layer], digits_reaching(&of_layer));
+        let losses = &opened.losses.as_ref().expect("a line of losses")[layer];
+        assert_eq!(losses.len() as u64, opened.planes[layer]);
+        check_losses(losses, &of_layer);
     }
 
     // The bits on the card add up to the coefficients, and there are no others.

@@ -9,10 +9,11 @@ use common::{
 use trace_card_tests::model::planner::{exhaustive, front, plans_of, Goal, MOST_PLANS_TRIED};
 use trace_card_tests::model::{figure, open, plan_by_cells, plan_by_limit, Curve, Opened, Planned};
 use trace_card_tests::random::cases::{small_size, step, Case, CURVES, LARGE_SIZES};
+use trace_card_tests::random::losses::{any_losses, most, old, with_losses};
 use trace_card_tests::random::plans::plan_within;
 use trace_card_tests::random::Random;
 
-/// A header as text. The planner goes by it as if every plane were there, so none is.
+/// An old card's header as text. The planner goes by it as if every plane were there, so none is.
 fn header(
     (rows, cols): (u64, u64),
     levels: u64,
@@ -44,7 +45,8 @@ fn size_to_try(random: &mut Random) -> (u64, u64) {
     }
 }
 
-/// A header of at most so many plans: random counts for layers that are not empty.
+/// A header of at most so many plans: random counts for layers that are not empty. It may be an old one, or have any
+/// line of losses.
 fn header_of_few_plans(random: &mut Random, most: u64) -> Vec<u8> {
     let (rows, cols) = size_to_try(random);
     let levels = random.below(7);
@@ -63,13 +65,17 @@ fn header_of_few_plans(random: &mut Random, most: u64) -> Vec<u8> {
             plans = grown;
         }
     }
-    header(
-        (rows, cols),
-        levels,
-        random.pick(&CURVES),
-        step(random),
-        &planes,
-    )
+    let curve = random.pick(&CURVES);
+    let old = header((rows, cols), levels, curve, step(random), &planes);
+    match random.below(3) {
+        0 => old,
+        _ => with_any_losses(random, &old),
+    }
+}
+
+fn with_any_losses(random: &mut Random, card: &[u8]) -> Vec<u8> {
+    let losses = any_losses(random, &open(card).unwrap());
+    with_losses(card, &losses)
 }
 
 /// Limits and numbers of cells around those of plans, and the ends of what can be asked.
@@ -267,6 +273,68 @@ fn the_smaller_figure_comes_before_the_order_of_layers() {
     assert_eq!(plan_by_cells(&card, 1), Ok(expected));
 }
 
+/// A card with a line of losses goes by it, and by nothing else: where no number is above 0, nothing need be loaded, and
+/// where each is as large as it may be, all is as on an old card.
+#[test]
+fn cards_go_by_their_own_losses() {
+    let mut random = Random::new(407);
+    for _ in 0..300 {
+        let card = header_of_few_plans(&mut random, 1000);
+        let opened = open(&card).unwrap();
+        let (old, most) = (old(&card), most(&opened));
+        let none = with_losses(&card, &vec![0; most.len()]);
+        let closed = with_losses(&card, &most);
+        assert_eq!(open(&old).unwrap().losses, None);
+        for _ in 0..10 {
+            let plan = plan_within(&mut random, &opened.planes);
+            assert_eq!(figure(&none, &plan), Ok(opened.step));
+            assert_eq!(figure(&closed, &plan), figure(&old, &plan));
+        }
+        let nothing = Planned {
+            plan: plan(&[]),
+            cells: 0,
+            figure: opened.step,
+        };
+        for goal in goals_to_try(&mut random, &opened) {
+            assert_eq!(answer(&closed, goal), answer(&old, goal));
+            let refused = matches!(goal, Goal::Limit(limit) if limit < opened.step);
+            let expected = (!refused).then_some(nothing);
+            assert_eq!(answer(&none, goal), expected);
+        }
+    }
+}
+
+/// A longer drop may lose less than a shorter one, so a plan with fewer planes of a layer may have the smaller figure.
+#[test]
+fn losses_need_not_rise() {
+    // One row of five, linear, width 1, and planes of one cell. Layer 0 loses 1, 0, 4 and 2 with one to four of its
+    // planes missing, layer 1 loses 1 and 2.
+    let card = header((1, 5), 1, Curve::Linear, 0, &[4, 2, 0]);
+    let card = with_losses(&card, &[1, 0, 4, 2, 1, 2]);
+    let figures = [4, 3, 2, 1, 0].map(|missing| figure(&card, &plan(&[4 - missing, 2])).unwrap());
+    assert_eq!(figures, [2, 4, 0, 1, 0]);
+    for (limit, first, cells, figure) in [
+        // Two planes of layer 0 are enough, and a third would do harm.
+        (0, &[2, 2][..], 4, 0),
+        (1, &[2, 1], 3, 1),
+        (2, &[2], 2, 2),
+        // In one cell, one of layer 1; one of layer 0 would leave 6.
+        (3, &[0, 1], 1, 3),
+        (4, &[], 0, 4),
+        (5, &[], 0, 4),
+    ] {
+        let planned = Planned {
+            plan: plan(first),
+            cells,
+            figure,
+        };
+        assert_eq!(plan_by_limit(&card, limit), Ok(planned));
+        assert_eq!(plan_by_cells(&card, cells), Ok(planned));
+    }
+    // More cells change nothing any more.
+    assert_eq!(plan_by_cells(&card, u64::MAX), plan_by_limit(&card, 0));
+}
+
 #[test]
 fn what_is_left_in_an_early_layer_costs_more_cubically() {
     // With s = 1 both 7 columns and 7 rows are more than 6s. So 1 left in layer 0 is carried to 2 and
@@ -380,7 +448,10 @@ fn large_cards_are_planned() {
                 levels: 6,
                 ..Case::of_size(&mut random, rows, cols)
             };
-            check_large(&mut random, &case.write().card);
+            let card = case.write().card;
+            check_large(&mut random, &card);
+            let other = with_any_losses(&mut random, &card);
+            check_large(&mut random, &other);
         }
     }
 }
@@ -398,6 +469,8 @@ fn the_fullest_headers_are_planned() {
             let card = header((rows, cols), 6, curve, 65_535, &planes);
             assert!(open(&card).unwrap().cells <= 1012);
             check_large(&mut random, &card);
+            let other = with_any_losses(&mut random, &card);
+            check_large(&mut random, &other);
             let none = plan_by_cells(&card, 0).unwrap();
             assert_eq!((none.plan, none.cells), (plan(&[]), 0));
             let all = plan_by_limit(&card, 65_535).unwrap();

@@ -5,6 +5,7 @@ mod common;
 use common::{figure_by_hand, refusal, sizes_of, whole_in};
 use trace_card_tests::model::{open, preview, read, Reached};
 use trace_card_tests::random::cases::{Case, LARGE_SIZES};
+use trace_card_tests::random::losses::any_kind;
 use trace_card_tests::random::plans::plan_within;
 use trace_card_tests::random::Random;
 
@@ -46,7 +47,7 @@ fn as_readings_with_one_plane_more() {
     cases.extend(LARGE_SIZES.map(|(rows, cols)| Case::of_size(&mut random, rows, cols)));
     let mut accepted = 0;
     for case in cases {
-        let card = case.write().card;
+        let card = any_kind(&mut random, case.write().card);
         let header = open(&card).unwrap().header_length;
         for length in [card.len(), random.length(header, card.len())] {
             accepted += check(&mut random, &card[..length], case.count());

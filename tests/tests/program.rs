@@ -4,14 +4,15 @@
 
 mod common;
 
-use common::bench;
 use common::files::{bytes, file, text};
+use common::{bench, hour};
 use std::io::Write;
 use std::path::{Path, PathBuf};
 use std::process::{Command, Stdio};
 use trace_card_tests::model::program::{shown, trace, trace_compare};
 use trace_card_tests::model::{open, Curve};
 use trace_card_tests::random::cases::{Case, LARGE_SIZES};
+use trace_card_tests::random::losses::{any_kind, old};
 use trace_card_tests::random::sheets::Kind;
 use trace_card_tests::random::Random;
 
@@ -77,6 +78,7 @@ fn small_cards_whole_cut_and_damaged() {
     let mut random = Random::new(581);
     for _ in 0..60 {
         let card = Case::small(&mut random).write().card;
+        let card = any_kind(&mut random, card);
         let header = open(&card).unwrap().header_length;
         check(&card);
         check(&card[..random.length(0, card.len())]);
@@ -126,7 +128,7 @@ fn input_of_any_length() {
         longer.resize(length, 0);
         check(&longer);
         // A right header whose lines are cut short by an endless one.
-        for line in 0..7 {
+        for line in 0..8 {
             let lines: Vec<&[u8]> = card[..header].split_inclusive(|&byte| byte == 10).collect();
             let mut endless = lines[..line].concat();
             endless.extend_from_slice(&lines[line][..lines[line].len() - 1]);
@@ -236,7 +238,7 @@ fn two_cards_whole_cut_and_damaged() {
         if random.once_in(2) {
             other.samples.clone_from(&case.samples);
         }
-        let [first, second] = [case, other].map(|case| case.write().card);
+        let [first, second] = [case, other].map(|case| any_kind(&mut random, case.write().card));
         let header = open(&first).unwrap().header_length;
         let mut damaged = first.clone();
         damaged[random.below(first.len() as u64) as usize] ^= 1 << random.below(8);
@@ -430,7 +432,14 @@ fn axles() -> Case {
 fn the_example_cards() {
     let card = axles().write().card;
     assert_eq!(bytes("examples/axles.card"), card);
-    assert_eq!(bytes("examples/axles-half.card"), card[..701]);
+    assert_eq!(bytes("examples/axles-half.card"), card[..808]);
+    // Half of the planes of an hour, and the same of an old card.
+    let card = hour::sheet().write().card;
+    assert_eq!(bytes("examples/hour-half.card"), card[..2896]);
+    assert_eq!(bytes("examples/hour-half-old.card"), old(&card)[..2650]);
+    let opened = open(&card).unwrap();
+    assert_eq!(2896, opened.header_length + 32 * opened.cells as usize / 2);
+    // The bench card is an old one.
     let card = bench::card();
     assert_eq!(bytes("examples/bench.card"), card);
     assert_eq!(bytes("examples/bench-160.card"), card[..160]);

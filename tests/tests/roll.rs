@@ -11,6 +11,7 @@ use trace_card_tests::model::digits::{GREATEST_COEFFICIENT, LEAST_COEFFICIENT};
 use trace_card_tests::model::steps::LARGEST_STEP;
 use trace_card_tests::model::{open, roll, show};
 use trace_card_tests::random::cases::{Case, LARGE_SIZES};
+use trace_card_tests::random::losses::any_kind;
 use trace_card_tests::random::Random;
 
 /// What stands behind the lines.
@@ -92,7 +93,7 @@ fn cards_whole_and_cut() {
     cases.extend(LARGE_SIZES.map(|(rows, cols)| Case::of_size(&mut random, rows, cols)));
     let mut below_0 = 0;
     for case in cases {
-        let card = case.write().card;
+        let card = any_kind(&mut random, case.write().card);
         let header = open(&card).unwrap().header_length;
         for length in [card.len(), random.length(header, card.len())] {
             let (values, _) = rolled(&card[..length]);

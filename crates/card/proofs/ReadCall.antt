@@ -28,6 +28,7 @@ use Rattle.header.specs.declared.Refusal.the-variants as F
 use Rattle.header.specs.Refusals.{refusal, detailsOf}
 use Rattle.header.specs.Header.{planesOf, headerText}
 use Rattle.header.specs.Plan.{loads, missing, firstOver}
+use Rattle.header.specs.Losses.{told}
 use Rattle.header.specs.Opening.{Opening, opening, wellFormed}
 use Rattle.header.specs.Opening as O
 use Rattle.order.specs.CardOrder.{slots, whole, wholeOf}
@@ -46,12 +47,12 @@ use Rattle.card.specs.Reading.{Reading, valuesWith, notRead, unless, goo
 use Rattle.card.specs.Workings.{middlesOf, finished}
 
 -- ---- what a reading that is not refused answers
-abbrev pub readAs : Header → ℕ → List ℕ → Plan → Reading
-readAs h long bs plan =
+abbrev pub readAs : Header → List ℕ → ℕ → List ℕ → Plan → Reading
+readAs h ls long bs plan =
     record {
       refused = refusal 0 0 0;
       plan = plan;
-      figure = figureOf h (loads plan);
+      figure = figureOf h ls (loads plan);
       coefficients = coefsRead h long bs (loads plan);
       values = valuesWith h plan (coefsRead h long bs (loads plan));
     }
@@ -95,21 +96,21 @@ module _ (qs vs : List ℤ) (h : Header) where
     lengths-differ d = rw (e, ne-eqb (length qs) (points (h .shape)) (λ q. d (q ∙ sym e)))
 
 -- ---- what follows the planes
-pub finished-yes : (r : Refusal) → r ≡ F.Accepted → (h : Header) (plan : Plan) (qs vs v : List ℤ) (n : ℕ) → v ≡ rebuilding (h .shape) (h .curve) (h .step) (middlesOf h plan) qs vs → n ≡ boundOf h plan .figure
-    → record { refused = detailsOf r; plan = plan; figure = n; coefficients = qs; values = v } ≡ finished (detailsOf r) h plan qs vs
+pub finished-yes : (r : Refusal) → r ≡ F.Accepted → (h : Header) (ls : List ℕ) (plan : Plan) (qs vs v : List ℤ) (n : ℕ) → v ≡ rebuilding (h .shape) (h .curve) (h .step) (middlesOf h plan) qs vs → n ≡ boundOf h ls plan .figure
+    → record { refused = detailsOf r; plan = plan; figure = n; coefficients = qs; values = v } ≡ finished (detailsOf r) h ls plan qs vs
 unfolding finished
-finished-yes r y h plan qs vs v n a b = rw y (λ i. record { refused = refusal 0 0 0; plan = plan; figure = b i; coefficients = qs; values = a i })
+finished-yes r y h ls plan qs vs v n a b = rw y (λ i. record { refused = refusal 0 0 0; plan = plan; figure = b i; coefficients = qs; values = a i })
 
-module _ (h : Header) (r : wellFormed h ≡ true) (plan : Plan) (e : firstOver (planesOf h) (loads plan) ≡ layersMost)
+module _ (h : Header) (r : wellFormed h ≡ true) (ls : List ℕ) (plan : Plan) (e : firstOver (planesOf h) (loads plan) ≡ layersMost)
     (qs vs : List ℤ) (q : length qs ≡ points (h .shape)) (v : length vs ≡ points (h .shape)) where
-  pub finished-is : finished (refusal 0 0 0) h plan qs vs
-      ≡ record { refused = refusal 0 0 0; plan = plan; figure = figureOf h (loads plan); coefficients = qs; values = valuesWith h plan qs }
+  pub finished-is : finished (refusal 0 0 0) h ls plan qs vs
+      ≡ record { refused = refusal 0 0 0; plan = plan; figure = figureOf h ls (loads plan); coefficients = qs; values = valuesWith h plan qs }
   unfolding finished
-  finished-is i = record { refused = refusal 0 0 0; plan = plan; figure = bound-right h plan r e i; coefficients = qs; values = values-are h r plan qs vs q v i }
+  finished-is i = record { refused = refusal 0 0 0; plan = plan; figure = bound-right h ls plan r e i; coefficients = qs; values = values-are h r plan qs vs q v i }
 
 -- ---- loaded planes, finished, are the reading
-module _ (h : Header) (r : wellFormed h ≡ true) (long : ℕ) (bs : List ℕ) (here : long ≤ length bs) (qs vs : List ℤ) where
-  pub read-short : goodLengths qs vs h ≡ false → (plan : Plan) → notRead qs vs (refusal 3 0 0) ≡ readOpened qs vs bs h long plan
+module _ (h : Header) (r : wellFormed h ≡ true) (ls : List ℕ) (long : ℕ) (bs : List ℕ) (here : long ≤ length bs) (qs vs : List ℤ) where
+  pub read-short : goodLengths qs vs h ≡ false → (plan : Plan) → notRead qs vs (refusal 3 0 0) ≡ readOpened qs vs bs h ls long plan
   unfolding readOpened firstRefusal
   read-short n plan = rw n
 
@@ -124,7 +125,7 @@ module _ (h : Header) (r : wellFormed h ≡ true) (long : ℕ) (bs : List ℕ) (
       abbrev bad : ℕ
       bad = firstBad h long bs (loads plan)
 
-      finished-read : finished (loading qs bs h long plan .refused) h plan (loading qs bs h long plan .coefficients) vs ≡ readOpened qs vs bs h long plan
+      finished-read : finished (loading qs bs h long plan .refused) h ls plan (loading qs bs h long plan .coefficients) vs ≡ readOpened qs vs bs h ls long plan
       unfolding readOpened firstRefusal loading
       finished-read =
           by (ltb asked layersMost)
@@ -133,10 +134,10 @@ module _ (h : Header) (r : wellFormed h ≡ true) (long : ℕ) (bs : List ℕ) (
           (λ u. rw (good, can-load, t, u) (unfold finished in refl))
           (λ u. rw (good, can-load, t, u)
           (let within : asked ≡ layersMost = omega (arith, ltb-false asked layersMost t, over-le (loads (wholeOf bs h long)) (loads plan)) in
-          finished-is h r plan (plan-within h r long bs plan here within) (coefsRead h long bs (loads plan)) vs (coefs-long h long bs (loads plan)) (good-lengths qs vs h good .1))))
+          finished-is h r ls plan (plan-within h r long bs plan here within) (coefsRead h long bs (loads plan)) vs (coefs-long h long bs (loads plan)) (good-lengths qs vs h good .1))))
 
       -- what loading is refused for, reading is
-      pub loaded-refused : loading qs bs h long plan .refused ≡ readOpened qs vs bs h long plan .refused
+      pub loaded-refused : loading qs bs h long plan .refused ≡ readOpened qs vs bs h ls long plan .refused
       unfolding readOpened firstRefusal loading
       loaded-refused =
           by (ltb asked layersMost)
@@ -145,25 +146,25 @@ module _ (h : Header) (r : wellFormed h ≡ true) (long : ℕ) (bs : List ℕ) (
           (λ u. rw (good, can-load, t, u))
           (λ u. rw (good, can-load, t, u)))
 
-      pub loaded-read : (refusal : Refusal) (q : List ℤ) → asLoading refusal q ≡ loading qs bs h long plan → finished (detailsOf refusal) h plan q vs ≡ readOpened qs vs bs h long plan
-      loaded-read refusal q x = ap (λ (l : Loading). finished (l .refused) h plan (l .coefficients) vs) x ∙ finished-read
+      pub loaded-read : (refusal : Refusal) (q : List ℤ) → asLoading refusal q ≡ loading qs bs h long plan → finished (detailsOf refusal) h ls plan q vs ≡ readOpened qs vs bs h ls long plan
+      loaded-read refusal q x = ap (λ (l : Loading). finished (l .refused) h ls plan (l .coefficients) vs) x ∙ finished-read
 
     -- with all whole planes: beside a refusal the plan does not matter
     plan-read : eqb (allWhole qs bs h long .refused .number) 0 ≡ true → wholeLoaded qs bs h long ≡ wholeOf bs h long
     unfolding wholeLoaded
     plan-read z = rw z
 
-    refused-same : (d : Details) (p p′ : Plan) (q : List ℤ) → eqb (d .number) 0 ≡ false → finished d h p q vs ≡ finished d h p′ q vs
+    refused-same : (d : Details) (p p′ : Plan) (q : List ℤ) → eqb (d .number) 0 ≡ false → finished d h ls p q vs ≡ finished d h ls p′ q vs
     unfolding finished
     refused-same d p p′ q z = rw z
 
     pub whole-read : (refusal : Refusal) (q : List ℤ) (plan : Plan) → asLoading refusal q ≡ allWhole qs bs h long → plan ≡ wholeLoaded qs bs h long
-        → finished (detailsOf refusal) h plan q vs ≡ readOpened qs vs bs h long (wholeOf bs h long)
+        → finished (detailsOf refusal) h ls plan q vs ≡ readOpened qs vs bs h ls long (wholeOf bs h long)
     whole-read refusal q plan x y =
         let d = detailsOf refusal in
         let number-is : eqb (d .number) 0 ≡ true → eqb (allWhole qs bs h long .refused .number) 0 ≡ true = λ z. ap (λ (l : Loading). eqb (l .refused .number) 0) (sym x) ∙ z in
         by (eqb (d .number) 0)
-        (λ z. ap (λ (p : Plan). finished d h p q vs) (y ∙ plan-read (number-is z)) ∙ loaded-read (wholeOf bs h long) refusal q x)
+        (λ z. ap (λ (p : Plan). finished d h ls p q vs) (y ∙ plan-read (number-is z)) ∙ loaded-read (wholeOf bs h long) refusal q x)
         (λ z. refused-same d plan (wholeOf bs h long) q z ∙ loaded-read (wholeOf bs h long) refusal q x)
 
 -- ---- what is checked: the lengths, then the plan
@@ -214,16 +215,16 @@ module _ (qs vs : List ℤ) (r : Refusal) (d : Details) (e : detailsOf r ≡ d) 
   stops n = rw (← e, ne-eqb (detailsOf r .number) 0 n)
 
 -- ---- what opening answers
-module _ (bs : List ℕ) (o : Opened) (e : O.asOpening o ≡ opening bs) (yes : o .refusal ≡ F.Accepted) where
-  pub opened-yes : (qs vs : List ℤ) (go : Header → ℕ → Reading) → go (o .header) (o .length) ≡ afterOpening qs vs (opening bs) go
-  opened-yes qs vs go = rw (← e, yes)
+module _ (bs : List ℕ) (o : Opened) (e : O.asOpening o (opening bs .losses) ≡ opening bs) (yes : o .refusal ≡ F.Accepted) where
+  pub opened-yes : (qs vs : List ℤ) (go : Header → List ℕ → ℕ → Reading) (ls : List ℕ) → ls ≡ told (opening bs .losses) → go (o .header) ls (o .length) ≡ afterOpening qs vs (opening bs) go
+  opened-yes qs vs go ls is = ap (λ (ms : List ℕ). go (o .header) ms (o .length)) is ∙ rw (← e, yes)
 
-  opens : Opens bs (opening bs .header) (opening bs .long)
-  opens = opened-right bs (opened-accepts bs o e yes)
+  opens : Opens bs (opening bs .header) (opening bs .losses) (opening bs .long)
+  opens = opened-right bs (opened-accepts bs o _ e yes)
 
   pub header-here : o .length ≤ length bs
   header-here =
       let a : o .length ≡ opening bs .long = ap (λ (x : Opening). x .long) e in
-      let t = headerText (opening bs .header) in
+      let t = headerText (opening bs .header) (opening bs .losses) in
       let b : length bs ≡ length (t ++ drop (opening bs .long) bs) = ap length (opens .text-is) in
       omega (arith, opens .length-is, length-append t (drop (opening bs .long) bs))

@@ -37,12 +37,12 @@ use Rattle.card.specs.Refining.{refineLayer, refineOpened}
 use Rattle.card.proofs.ReadCall.{good-lengths, can-load, finished-is}
 
 -- ---- what a refinement that is not refused answers
-abbrev pub refinedAs : Header → ℕ → List ℕ → Plan → ℕ → ℕ → List ℤ → Reading
-refinedAs h long bs plan k p qs =
+abbrev pub refinedAs : Header → List ℕ → ℕ → List ℕ → Plan → ℕ → ℕ → List ℤ → Reading
+refinedAs h ls long bs plan k p qs =
     record {
       refused = refusal 0 0 0;
       plan = withPlane plan k;
-      figure = figureOf h (loads (withPlane plan k));
+      figure = figureOf h ls (loads (withPlane plan k));
       coefficients = coefsWith h long bs k p qs;
       values = valuesWith h (withPlane plan k) (coefsWith h long bs k p qs);
     }
@@ -84,19 +84,19 @@ module _ (h : Header) (r : wellFormed h ≡ true) (plan : Plan) (k : ℕ) (hk : 
         ])
 
 -- ---- the tests of a layer
-module _ (qs vs : List ℤ) (bs : List ℕ) (h : Header) (long : ℕ) (plan : Plan) (k : ℕ) where
+module _ (qs vs : List ℤ) (bs : List ℕ) (h : Header) (ls : List ℕ) (long : ℕ) (plan : Plan) (k : ℕ) where
   abbrev limit : ℕ
   limit = loads (wholePlan h (length bs - long)) k
 
-  pub refine-past : layers (h .shape) ≤ k → R.notRead qs vs (refusal 9 k 0) ≡ refineLayer qs vs bs h long plan k
+  pub refine-past : layers (h .shape) ≤ k → R.notRead qs vs (refusal 9 k 0) ≡ refineLayer qs vs bs h ls long plan k
   refine-past l = rw (le-ltb k (layers (h .shape)) l)
 
   module _ (hk : k < layers (h .shape)) where
-    pub refine-none : limit ≤ loads plan k → R.notRead qs vs (refusal 9 k 0) ≡ refineLayer qs vs bs h long plan k
+    pub refine-none : limit ≤ loads plan k → R.notRead qs vs (refusal 9 k 0) ≡ refineLayer qs vs bs h ls long plan k
     refine-none l = rw (lt-ltb k (layers (h .shape)) hk, le-ltb (loads plan k) limit l)
 
 -- a layer with a further whole plane: it is one of the header's, and in the bytes
-module _ (h : Header) (r : wellFormed h ≡ true) (long : ℕ) (bs : List ℕ) (plan : Plan) (k : ℕ) (here : long ≤ length bs)
+module _ (h : Header) (r : wellFormed h ≡ true) (ls : List ℕ) (long : ℕ) (bs : List ℕ) (plan : Plan) (k : ℕ) (here : long ≤ length bs)
     (hk : k < layers (h .shape)) (more : loads plan k < loads (wholePlan h (length bs - long)) k) where
   further : loads plan k < whole h (length bs - long) k
   further = omega (arith, whole-at h (length bs - long) k (omega (arith, layers-few (right-yes h r))))
@@ -119,29 +119,29 @@ module _ (h : Header) (r : wellFormed h ≡ true) (long : ℕ) (bs : List ℕ) (
         let named : at-next < planesOf h k = omega (arith, next-named) in
         rw (lt-ltb k (layers (h .shape)) hk, lt-ltb at-next (planesOf h k) named, next-whole)
 
-    finished-added : finished (adding qs bs h long k at-next .refused) h (withPlane plan k) (adding qs bs h long k at-next .coefficients) vs ≡ refineLayer qs vs bs h long plan k
+    finished-added : finished (adding qs bs h long k at-next .refused) h ls (withPlane plan k) (adding qs bs h long k at-next .coefficients) vs ≡ refineLayer qs vs bs h ls long plan k
     unfolding adding
     finished-added =
         let full = good-lengths qs vs h good in
-        let can = can-load h r long bs here qs vs good in
+        let can = can-load h r ls long bs here qs vs good in
         let low = lt-ltb k (layers (h .shape)) hk in
         let further = lt-ltb (loads plan k) (loads (wholePlan h (length bs - long)) k) more in
         by (allHeld qs)
         (λ t. by (fine h long bs k at-next)
         (λ u. rw (can, next-there, low, further, t, u)
-        (finished-is h r (withPlane plan k) (with-within h r plan k hk next-named in-plan) (coefsWith h long bs k at-next qs) vs (plus-long (h .shape) k at-next _ qs ∙ full .0) (full .1)))
+        (finished-is h r ls (withPlane plan k) (with-within h r plan k hk next-named in-plan) (coefsWith h long bs k at-next qs) vs (plus-long (h .shape) k at-next _ qs ∙ full .0) (full .1)))
         (λ u. rw (can, next-there, low, further, t, u) (unfold finished in refl)))
         (λ t. rw (can, next-there, low, further, t) (unfold finished in refl))
 
     pub added-refine : (refusal : Refusal) (q : List ℤ) (p : ℕ) (pl : Plan) → p ≡ at-next → asLoading refusal q ≡ adding qs bs h long k p → pl ≡ withPlane plan k
-        → finished (detailsOf refusal) h pl q vs ≡ refineLayer qs vs bs h long plan k
+        → finished (detailsOf refusal) h ls pl q vs ≡ refineLayer qs vs bs h ls long plan k
     added-refine refusal q p pl e x y =
-        ap₂ (λ (l : Loading) (p : Plan). finished (l .refused) h p (l .coefficients) vs) (x ∙ ap (adding qs bs h long k) e) y
+        ap₂ (λ (l : Loading) (p : Plan). finished (l .refused) h ls p (l .coefficients) vs) (x ∙ ap (adding qs bs h long k) e) y
         ∙ finished-added
 
 -- ---- the old values: refining asks for their length alone, so that into another slice of values it answers the same
-module _ (qs : List ℤ) (bs : List ℕ) (h : Header) (long : ℕ) (plan : Plan) (k : ℕ) where
-  pub refine-short : (vs : List ℤ) → goodLengths qs vs h ≡ false → refineOpened qs vs bs h long plan k ≡ R.notRead qs vs (refusal 3 0 0)
+module _ (qs : List ℤ) (bs : List ℕ) (h : Header) (ls : List ℕ) (long : ℕ) (plan : Plan) (k : ℕ) where
+  pub refine-short : (vs : List ℤ) → goodLengths qs vs h ≡ false → refineOpened qs vs bs h ls long plan k ≡ R.notRead qs vs (refusal 3 0 0)
   unfolding refineOpened R.firstRefusal
   refine-short vs n = rw n
 
@@ -149,7 +149,7 @@ module _ (qs : List ℤ) (bs : List ℕ) (h : Header) (long : ℕ) (plan : Plan)
     abbrev Alike : Reading → Reading → Type 0
     Alike r′ r = r′ ≡ R.unless qs vs′ (r .refused) r
 
-    pub refine-unread : Alike (refineOpened qs vs′ bs h long plan k) (refineOpened qs vs bs h long plan k)
+    pub refine-unread : Alike (refineOpened qs vs′ bs h ls long plan k) (refineOpened qs vs bs h ls long plan k)
     unfolding refineOpened R.firstRefusal
     refine-unread =
         let check = R.firstRefusal qs vs h (wholeOf bs h long) plan in

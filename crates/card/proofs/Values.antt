@@ -1,6 +1,7 @@
 -- What a reading that is not refused gives: a value for each point of a sheet, and small, since 23 digits hold every coefficient that is read and every middle; and a figure that is small too.
 use mathlib.Core.Bool.{true}
 use mathlib.Core.List.{List}
+use mathlib.Core.Option.{Option}
 use mathlib.Core.Path.{_≡_}
 use Prim.Native.Nat.{ℕ, _^_, _<_, _≤_}
 use native.Mathlib.Omega.{arith}
@@ -29,7 +30,9 @@ use Rattle.header.specs.declared.Header.{Header}
 use Rattle.header.specs.declared.Plan.{Plan}
 use Rattle.header.specs.Header.{placesMost}
 use Rattle.header.specs.Plan.{loads, missing}
+use Rattle.header.specs.Losses.{told}
 use Rattle.header.specs.Opening.{opening}
+use Rattle.header.proofs.Laid.{LossesFit, fit-small}
 use Rattle.header.proofs.Opens.{opened-right}
 use Rattle.header.proofs.WellFormed.{WellFormed, right-yes, few-planes}
 use Rattle.order.specs.CardOrder.{slots, wholeOf}
@@ -47,7 +50,7 @@ pub record Answered (sh : Shape) (r : Reading) : Type 0 where
   pub small : (p : ℕ) → Within valueLimit (at (r .values) p)
   pub figure : r .figure ≤ 2 ^ 57
 
-module _ (bs : List ℕ) (h : Header) (long : ℕ) (r : WellFormed h) (plan : Plan) where
+module _ (bs : List ℕ) (h : Header) (r : WellFormed h) (losses : Option (List ℕ)) (fit : LossesFit h losses) (long : ℕ) (plan : Plan) where
   abbrev qs : List ℤ
   qs = coefsRead h long bs (loads plan)
 
@@ -63,17 +66,17 @@ module _ (bs : List ℕ) (h : Header) (long : ℕ) (r : WellFormed h) (plan : Pl
       rw (counted-own (h .shape) (r .shape) qs (coefs-long h long bs (loads plan)) _ p hp)
       (within-by (# (at qs p) ⊞ # (middle d)) (omega (arith, range-23, read-held h long bs (loads plan) r p hp, holds-up d placesMost (middle d) few (middle-held d))))
 
-  read-answer : Answered (h .shape) (readAs h long bs plan)
+  read-answer : Answered (h .shape) (readAs h (told losses) long bs plan)
   unfolding valuesWith
   read-answer =
       record {
         shape = r .shape;
         long = length-rebuilt (layering (h .shape) (h .curve)) (h .step) counts;
         small = rebuilt-limit (h .shape) (r .shape) (h .curve) (h .step) (r .step) counts read-small;
-        figure = figure-small r (loads plan);
+        figure = figure-small r (told losses) (λ i. omega (arith, fit-small r losses fit i)) (loads plan);
       }
 
-  opened-answer : (qs vs : List ℤ) → readOpened qs vs bs h long plan .refused .number ≡ 0 → Answered (h .shape) (readOpened qs vs bs h long plan)
+  opened-answer : (qs vs : List ℤ) → readOpened qs vs bs h (told losses) long plan .refused .number ≡ 0 → Answered (h .shape) (readOpened qs vs bs h (told losses) long plan)
   unfolding readOpened
   opened-answer qs vs zero =
       by (eqb (firstRefusal qs vs h (wholeOf bs h long) plan .number) 0)
@@ -88,12 +91,12 @@ module _ (qs vs : List ℤ) (bs : List ℕ) where
 
   -- with a plan that may hang on the header
   after-answer : (plan : Header → ℕ → Plan)
-      → (let r = afterOpening qs vs (opening bs) (λ h long. readOpened qs vs bs h long (plan h long)) in r .refused .number ≡ 0 → Answered sheet r)
+      → (let r = afterOpening qs vs (opening bs) (λ h ls long. readOpened qs vs bs h ls long (plan h long)) in r .refused .number ≡ 0 → Answered sheet r)
   after-answer plan zero =
       by (eqb (opening bs .refused .number) 0)
       (λ y.
-      let right = right-yes (opening bs .header) (opened-right bs (eqb-true _ 0 y) .right-is) in
-      rw y (opened-answer bs (opening bs .header) (opening bs .long) right _ qs vs (rw y at zero)))
+      let o = opened-right bs (eqb-true _ 0 y) in
+      rw y (opened-answer bs (opening bs .header) (right-yes (opening bs .header) (o .right-is)) (opening bs .losses) (o .losses-fit) (opening bs .long) _ qs vs (rw y at zero)))
       (λ n. absurd (eqb-false _ 0 n (rw n at zero)))
 
   pub reading-answered : (plan : Plan) → reading qs vs bs plan .refused .number ≡ 0 → Answered sheet (reading qs vs bs plan)

@@ -1,6 +1,7 @@
 -- What writing comes to, by the outcome of its tests one after the other. After them quantizing is not refused; where it finds a sample out of range so does writing, and else its coefficients are within 23 digits and their card is written.
 use mathlib.Core.Path.{_≡_, refl, sym, ap, _∙_}
 use mathlib.Core.Bool.{Bool, true, false, _&&_}
+use mathlib.Core.Option.{some}
 use mathlib.Core.List.{List, _++_}
 use Prim.Native.Nat.{ℕ, _+_, _<_, _≤_}
 use native.Mathlib.Decide.{decLt}
@@ -39,11 +40,11 @@ use Rattle.header.specs.Refusals.{refusal, detailsOf}
 use Rattle.header.specs.Header.{placesMost}
 use Rattle.card.specs.declared.Written.{Written}
 use Rattle.header.proofs.TextLength.{card-fits}
-use Rattle.packing.specs.Planes.{headerFor, cardOf, allHeld}
+use Rattle.packing.specs.Planes.{headerFor, lossesFor, cardOf, allHeld}
 use Rattle.packing.specs.Workings.Calls.{cardFor}
 use Rattle.packing.proofs.All.{all-by}
 use Rattle.packing.proofs.BodyOrder.{body-length}
-use Rattle.packing.proofs.Cards.{header-right, card-length}
+use Rattle.packing.proofs.Cards.{header-right, card-length, measured-fit}
 use Rattle.packing.proofs.FlatPlanes.{zero-holds}
 use Rattle.header.proofs.WellFormed.{few-planes}
 use Rattle.card.specs.Writing.{outputLeast, badSizes, Writing, afterScan, badSettings, roomToWrite, writing, asWriting}
@@ -65,7 +66,7 @@ made-same d d′ n n′ q q′ v v′ o o′ a b c e f =
 card-most : (sh : Shape) → accepted sh ≡ true → (qs : List ℤ) (curve : Curve) (e : ℕ) → e ≤ stepMost → length (cardOf sh curve e qs) ≤ outputLeast
 card-most sh ok qs curve e step =
     let h = header-right sh ok qs curve e step in
-    omega (arith, card-length sh ok qs curve e step, card-fits h, body-length (headerFor sh curve e qs) qs (few-planes h))
+    omega (arith, card-length sh ok qs curve e step, card-fits h (some (lossesFor sh qs)) (measured-fit sh ok qs curve e step), body-length (headerFor sh curve e qs) qs (few-planes h))
 
 -- a run at the front
 sets-front : (d a : List ℕ) → length a ≤ length d → sets d 0 a ≡ a ++ drop (length a) d

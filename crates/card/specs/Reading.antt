@@ -13,6 +13,7 @@ use Rattle.header.specs.declared.Plan.{Plan}
 use Rattle.header.specs.declared.Details.{Details}
 use Rattle.header.specs.Refusals.{refusal, detailsOf}
 use Rattle.header.specs.Plan.{noPlan, loads, missing, firstOver}
+use Rattle.header.specs.Losses.{told}
 use Rattle.header.specs.Opening.{Opening, opening}
 use Rattle.order.specs.CardOrder.{slotLayer, slots, wholeOf}
 use Rattle.figure.specs.Figure.{figureOf}
@@ -45,14 +46,14 @@ module _ (qs vs : List ℤ) where
   unless d go = cond (eqb (d .number) 0) go (notRead d)
 
   -- refusal 8: a plane of the plan that cannot be (the layer of the first one in card order); otherwise what is read. All planes of the plan are whole
-  abbrev pub readWhole : Header → ℕ → List ℕ → Plan → ℕ → Reading
-  readWhole h long bs plan bad =
+  abbrev pub readWhole : Header → List ℕ → ℕ → List ℕ → Plan → ℕ → Reading
+  readWhole h ls long bs plan bad =
       cond (ltb bad (slots h))
       (notRead (refusal 8 (slotLayer h bad) 0))
       (record {
         refused = refusal 0 0 0;
         plan = plan;
-        figure = figureOf h (loads plan);
+        figure = figureOf h ls (loads plan);
         coefficients = coefsRead h long bs (loads plan);
         values = valuesWith h plan (coefsRead h long bs (loads plan));
       })
@@ -64,21 +65,21 @@ module _ (qs vs : List ℤ) where
   unfoldable pub firstRefusal : Header → Plan → Plan → Details
   firstRefusal h whole plan = cond (goodLengths h) (planRefusal (firstOver (loads whole) (loads plan))) (refusal 3 0 0)
 
-  -- a card that has been opened: 3 and 9, then 8
-  unfoldable pub readOpened : List ℕ → Header → ℕ → Plan → Reading
-  readOpened bs h long plan =
-      unless (firstRefusal h (wholeOf bs h long) plan) (readWhole h long bs plan (firstBad h long bs (loads plan)))
+  -- a card that has been opened, with the losses that it tells: 3 and 9, then 8
+  unfoldable pub readOpened : List ℕ → Header → List ℕ → ℕ → Plan → Reading
+  readOpened bs h ls long plan =
+      unless (firstRefusal h (wholeOf bs h long) plan) (readWhole h ls long bs plan (firstBad h long bs (loads plan)))
 
   -- what follows opening
-  abbrev pub afterOpening : Opening → (Header → ℕ → Reading) → Reading
-  afterOpening o go = unless (o .refused) (go (o .header) (o .long))
+  abbrev pub afterOpening : Opening → (Header → List ℕ → ℕ → Reading) → Reading
+  afterOpening o go = unless (o .refused) (go (o .header) (told (o .losses)) (o .long))
 
   unfoldable pub reading : List ℕ → Plan → Reading
-  reading bs plan = afterOpening (opening bs) (λ h long. readOpened bs h long plan)
+  reading bs plan = afterOpening (opening bs) (λ h ls long. readOpened bs h ls long plan)
 
   -- showing: reading with all planes that are whole
   unfoldable pub showing : List ℕ → Reading
-  showing bs = afterOpening (opening bs) (λ h long. readOpened bs h long (wholeOf bs h long))
+  showing bs = afterOpening (opening bs) (λ h ls long. readOpened bs h ls long (wholeOf bs h long))
 
 -- the code's answer in these terms
 abbrev pub asReading : Reached → List ℤ → List ℤ → Reading

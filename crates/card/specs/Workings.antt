@@ -1,6 +1,6 @@
 -- What follows the planes, as the code does it.
 use mathlib.Core.List.{List}
-use Prim.Native.Nat.{min}
+use Prim.Native.Nat.{ℕ, min}
 use lib.IntN.{ℤ}
 use Rattle.digits.specs.Digits.{middle}
 use Rattle.digits.specs.Workings.{digitsMost}
@@ -26,13 +26,13 @@ unfoldable pub middlesOf : Header → Plan → List ℤ
 middlesOf h plan = tabulate layersMost (λ k. middle (min (missing h (loads plan) k) digitsMost))
 
 -- what follows the planes as the code does it: values and figure, unless the planes were refused
-unfoldable pub finished : Details → Header → Plan → List ℤ → List ℤ → Reading
-finished d h plan qs vs =
+unfoldable pub finished : Details → Header → List ℕ → Plan → List ℤ → List ℤ → Reading
+finished d h ls plan qs vs =
     unless qs vs d
     (record {
       refused = refusal 0 0 0;
       plan = plan;
-      figure = boundOf h plan .figure;
+      figure = boundOf h ls plan .figure;
       coefficients = qs;
       values = rebuilding (h .shape) (h .curve) (h .step) (middlesOf h plan) qs vs;
     })

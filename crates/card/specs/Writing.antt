@@ -19,7 +19,7 @@ use Rattle.packing.specs.Planes.{cardOf}
 
 -- the room that writing asks for
 abbrev pub outputLeast : ℕ
-outputLeast = 32768
+outputLeast = 36864
 
 -- refusal 1: R or C is 0, or R × C is above 8,192
 unfoldable pub badSizes : ℕ → ℕ → Bool

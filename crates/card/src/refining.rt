@@ -16,6 +16,7 @@ use crate::reading::finish;
 use crate::reading::good_lengths;
 use crate::reading::refused;
 use header::Header;
+use header::MOST_LOSSES;
 use header::Plan;
 use header::Refusal;
 use sheet::MOST_LAYERS;
@@ -47,6 +48,7 @@ fn first_refusal(
 fn refine_layer(
     bytes: &[u8],
     header: Header,
+    losses: &[u32],
     at: usize,
     whole: Plan,
     plan: Plan,
@@ -56,7 +58,7 @@ fn refine_layer(
 ) -> Reached
     requires { ⌜ (O.wellFormed header ≡ true) × (at ≤ length (now bytes)) × (whole ≡ wholeOf (now bytes) header at) ⌝ }
     requires { ⌜ (R.goodLengths (now coefficients) (now values) header ≡ true) × (N.firstOver (Hd.planesOf header) (N.loads plan) ≡ layersMost) ⌝ }
-    ensures { λ r. ⌜ R.asReading r (now (coefficients .exit)) (now (values .exit)) ≡ F.refineLayer (now (coefficients .entry)) (now (values .entry)) (now (bytes .entry)) header at plan layer ⌝ }
+    ensures { λ r. ⌜ R.asReading r (now (coefficients .exit)) (now (values .exit)) ≡ F.refineLayer (now (coefficients .entry)) (now (values .entry)) (now (bytes .entry)) header (now (losses .entry)) at plan layer ⌝ }
 {
     let shape = header.shape;
     let limit = whole.planes;
@@ -71,13 +73,21 @@ fn refine_layer(
     let counts = header.planes;
     let p = counts[k] - wanted[k] - 1;
     let refusal = loading::add_plane(bytes, header, at, k, p, coefficients);
-    finish(refusal, header, plan.with_plane(k), coefficients, values)
+    finish(
+        refusal,
+        header,
+        losses,
+        plan.with_plane(k),
+        coefficients,
+        values,
+    )
 }
 
 // A card that has been opened, refined with a plan that may ask too much.
 fn refine_opened(
     bytes: &[u8],
     header: Header,
+    losses: &[u32],
     at: usize,
     plan: Plan,
     layer: u64,
@@ -85,7 +95,7 @@ fn refine_opened(
     values: &mut [i64],
 ) -> Reached
     requires { ⌜ (O.wellFormed header ≡ true) × (at ≤ length (now bytes)) ⌝ }
-    ensures { λ r. ⌜ R.asReading r (now (coefficients .exit)) (now (values .exit)) ≡ F.refineOpened (now (coefficients .entry)) (now (values .entry)) (now (bytes .entry)) header at plan layer ⌝ }
+    ensures { λ r. ⌜ R.asReading r (now (coefficients .exit)) (now (values .exit)) ≡ F.refineOpened (now (coefficients .entry)) (now (values .entry)) (now (bytes .entry)) header (now (losses .entry)) at plan layer ⌝ }
 {
     let whole = order::whole_planes(header, bytes.len() - at);
     let refusal = first_refusal(header, whole, plan, coefficients, values);
@@ -93,6 +103,7 @@ fn refine_opened(
         Refusal::Accepted => refine_layer(
             bytes,
             header,
+            losses,
             at,
             whole,
             plan,
@@ -114,14 +125,17 @@ pub fn refine(
 ) -> Reached
     ensures { λ r. ⌜ R.asReading r (now (coefficients .exit)) (now (values .exit)) ≡ F.refining (now (coefficients .entry)) (now (values .entry)) (now (bytes .entry)) plan layer ⌝ }
 {
-    let opened = header::open(bytes);
+    let mut table = [0u32; MOST_LOSSES];
+    let opened = header::open_with_losses(bytes, &mut table);
     let refusal = opened.refusal;
     match refusal {
         Refusal::Accepted => {
             let header = opened.header;
+            let told = opened.losses;
             refine_opened(
                 bytes,
                 header,
+                &table[..told],
                 opened.length,
                 plan,
                 layer,

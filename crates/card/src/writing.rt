@@ -10,7 +10,7 @@ use sheet::MOST_LEVELS;
 use sheet::MOST_STEP;
 
 // The room that writing asks for.
-const LEAST_OUTPUT: usize = 32768;
+const LEAST_OUTPUT: usize = 36864;
 
 fn refused(refusal: Refusal) -> Written
     ensures { λ r. ⌜ (r .refusal ≡ refusal) × (r .length ≡ 0) ⌝ }

@@ -5,19 +5,19 @@ use Prim.Native.Nat.{ℕ, zero, suc, _%_, _≤_, _<_}
 use native.Mathlib.Omega.{arith}
 use native.Mathlib.Nat as NatL
 use lib.IntN.{ℤ, pos, natAbs, _+ℤ_, _-ℤ_, _*ℤ_}
-use lib.ListN.{length, getD}
+use lib.ListN.{length, getD, take}
 use Rattle.integers.specs.Distance.{Near}
 use Rattle.integers.specs.Floor.{floorDiv}
 use Rattle.integers.proofs.Diff.{#, lit, _⊖_, _⊡_}
 use Rattle.integers.proofs.Order.{eq-by}
-use Rattle.integers.proofs.Near.{parts-abs}
+use Rattle.integers.proofs.Near.{parts-abs, near-is, near-le}
 use Rattle.integers.proofs.Floor.{floor-at}
-use Rattle.digits.specs.Digits.{value, Binary, lowest, higher, digitAt, digitsOf, middle, loss}
+use Rattle.digits.specs.Digits.{value, Binary, lowest, higher, digitAt, digitsOf, middle, loss, away}
 use Rattle.digits.proofs.DigitLists.{truncate}
 use Rattle.digits.proofs.Weights.{evens, odds}
-use Rattle.digits.proofs.Range.{Holds, holds-cons, holds-uncons}
+use Rattle.digits.proofs.Range.{Holds, range, holds-cons, holds-uncons}
 use Rattle.digits.proofs.Value.{value-inj}
-use Rattle.digits.proofs.Losses.{drop-near}
+use Rattle.digits.proofs.Losses.{held-near, drop-near, loss-none}
 
 -- ---- one digit
 pub lowest-small : (q : ℤ) → lowest q < 2
@@ -61,12 +61,35 @@ pub digits-unique : (ds : List ℕ) (n : ℕ) (q : ℤ) → Binary ds → length
 digits-unique ds n q b l e h =
     value-inj ds (digitsOf n q) b (digits-binary n q) (l ∙ sym (digits-length n q)) (e ∙ sym (digits-value n q h))
 
+-- the d lowest of them
+pub digits-low : (n d : ℕ) (q : ℤ) → d ≤ n → take d (digitsOf n q) ≡ digitsOf d q
+unfolding digitsOf
+digits-low n zero q h = refl
+digits-low zero (suc d) q h = absurd (NatL.not-suc-le-zero h)
+digits-low (suc n) (suc d) q h = ap (λ (ds : List ℕ). lowest q ∷ ds) (digits-low n d (higher q) (NatL.le-of-suc-le-suc h))
+
 -- ---- with the d lowest digits missing
--- what is kept of a number and the middle of what is missing are within the loss of it
+-- what is kept of a number and the middle of what is missing are as far from it as its missing digits are from their middle
+pub away-near : (n d : ℕ) (q : ℤ) → Holds n q → d ≤ n → Near (away d q) q (value (truncate d (digitsOf n q)) +ℤ middle d)
+unfolding away
+away-near n d q h l =
+    let m = natAbs (value (digitsOf d q) -ℤ middle d) in
+    subst (λ (z : ℤ). Near m z (value (truncate d (digitsOf n q)) +ℤ middle d)) (digits-value n q h)
+    (drop-near d m (digitsOf n q) (omega (arith, digits-length n q))
+    (subst (λ (ds : List ℕ). Near m (value ds) (middle d)) (sym (digits-low n d q l)) (near-is m (value (digitsOf d q)) (middle d) .0 (NatL.le-refl m))))
+
+-- that is never more than the loss
+pub away-loss : (d : ℕ) (q : ℤ) → away d q ≤ loss d
+unfolding away
+away-loss d q =
+    near-is (loss d) (value (digitsOf d q)) (middle d) .1
+    (held-near d (value (digitsOf d q)) (rw (digits-length d q) at (range (digitsOf d q) (digits-binary d q))))
+
+pub away-none : (q : ℤ) → away 0 q ≡ 0
+away-none q = omega (arith, away-loss 0 q, loss-none)
+
 pub digits-near : (n d : ℕ) (q : ℤ) → Holds n q → d ≤ n → Near (loss d) q (value (truncate d (digitsOf n q)) +ℤ middle d)
-digits-near n d q h l =
-    subst (λ (z : ℤ). Near (loss d) z (value (truncate d (digitsOf n q)) +ℤ middle d)) (digits-value n q h)
-    (drop-near d (digitsOf n q) (digits-binary n q) (omega (arith, digits-length n q)))
+digits-near n d q h l = near-le (away-loss d q) (away-near n d q h l)
 
 -- ---- a digit by its place
 pub digits-at : (n p : ℕ) (q : ℤ) → p < n → getD (digitsOf n q) p 0 ≡ digitAt q p

@@ -8,17 +8,15 @@ use native.Mathlib.Nat as NatL
 use lib.IntN.{ℤ, pos, _+ℤ_}
 use lib.ListN.{length, take, drop}
 use lib.Pow.{pow-mono}
-use lib.Seq.{length-take-le}
 use Rattle.integers.specs.Distance.{Near}
 use Rattle.integers.specs.Floor.{floorDiv, ceilDiv}
 use Rattle.integers.proofs.Diff.{#, via, _⊞_, _⊗_}
 use Rattle.integers.proofs.Near.{near-by}
-use Rattle.digits.specs.Digits.{value, Binary, weight, low, high, middle, loss}
+use Rattle.digits.specs.Digits.{value, weight, low, high, middle, loss}
 use Rattle.digits.specs.Workings.{digitsMost}
 use Rattle.digits.proofs.DigitLists.{truncate}
 use Rattle.digits.proofs.Ends.{about}
-use Rattle.digits.proofs.Range.{Holds, range}
-use Rattle.digits.proofs.Value.{binary-take}
+use Rattle.digits.proofs.Range.{Holds}
 use Rattle.digits.proofs.Places.{value-split, truncate-value}
 
 -- ---- THE BOUND
@@ -34,14 +32,13 @@ pub middle-none : middle 0 ≡ pos 0
 unfolding middle low high floorDiv ceilDiv
 middle-none = refl
 
--- so what is kept and the middle are within the loss of the number
-pub drop-near : (d : ℕ) (ds : List ℕ) → Binary ds → d ≤ length ds → Near (loss d) (value ds) (value (truncate d ds) +ℤ middle d)
-drop-near d ds b l =
-    let low : Holds d (value (take d ds)) = rw (length-take-le d ds l) at (range (take d ds) (binary-take d ds b)) in
+-- what is kept of a number and the middle are as far from it as the missing digits are from the middle
+pub drop-near : (d m : ℕ) (ds : List ℕ) → d ≤ length ds → Near m (value (take d ds)) (middle d) → Near m (value ds) (value (truncate d ds) +ℤ middle d)
+drop-near d m ds l h =
     near-by
     (via (value-split d ds l) (# (value (take d ds)) ⊞ # (weight d) ⊗ # (value (drop d ds))))
     (via (truncate-value d ds) (# (weight d) ⊗ # (value (drop d ds))) ⊞ # (middle d))
-    (omega (arith, held-near d (value (take d ds)) low))
+    (omega (arith, h))
 
 -- ---- the loss itself
 pub loss-rises : (c d : ℕ) → c ≤ d → loss c ≤ loss d

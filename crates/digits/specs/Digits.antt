@@ -71,3 +71,7 @@ middle d = floorDiv (low d +ℤ high d) 2
 unfoldable pub loss : ℕ → ℕ
 loss zero = 0
 loss (suc d) = 2 ^ d
+
+-- how far the d lowest digits of q are from the middle of what d digits can be; a card's losses are the largest of these that are met (`packing`, `measuredLoss`)
+unfoldable pub away : ℕ → ℤ → ℕ
+away d q = natAbs (value (digitsOf d q) -ℤ middle d)

@@ -64,7 +64,7 @@ rows-few bs =
     (λ n. rw (refused-blank (answers bs) (eqb-false _ 0 n)) (omega arith))
 
 -- ---- two cards
-module _ (bs bs′ : List ℕ) (o o′ : Opened) (e : O.asOpening o ≡ opening bs) (e′ : O.asOpening o′ ≡ opening bs′) where
+module _ (bs bs′ : List ℕ) (o o′ : Opened) (e : O.asOpening o (opening bs .losses) ≡ opening bs) (e′ : O.asOpening o′ (opening bs′ .losses) ≡ opening bs′) where
   pub in-both : {n n′ : ℕ} {cs ws cs′ ws′ : List ℤ} {ms : List ℕ} {c : Comparing} → n ≡ points (o .header .shape) → n′ ≡ points (o′ .header .shape)
       → cs ≡ replicate pointsMost (pos 0) → ws ≡ replicate pointsMost (pos 0) → cs′ ≡ replicate pointsMost (pos 0) → ws′ ≡ replicate pointsMost (pos 0) → ms ≡ replicate pointsMost 0
       → c ≡ comparing (lent (take n cs) (take n ws)) (lent (take n′ cs′) (take n′ ws′)) (take n ms) bs bs′ → c ≡ seenBoth bs bs′

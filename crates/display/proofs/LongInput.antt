@@ -1,14 +1,16 @@
 -- An input that is longer than any card: line by line, opening its first bytes and opening all of it answer alike, but that a line without an end in the first bytes has one in the rest, and is then wrong.
 use mathlib.Core.Bool.{Bool, true, false, cond}
-use mathlib.Core.List.{List, _++_}
+use mathlib.Core.List.{List, [], _∷_, _++_}
 use mathlib.Core.Option.{Option, none, some}
 use mathlib.Core.Path.{_≡_, refl, ap}
 use Prim.Native.Nat.{ℕ, _+_, _*_, _/_, _^_, _<_, _≤_}
 use native.Mathlib.Nat.{div-le-self, le-div-iff-mul-le, mul-comm}
 use native.Mathlib.Omega.{arith}
-use borrow.Author.Tests.{lt-ltb}
+use borrow.Author.Tests.{lt-ltb, ltb-true, ltb-false}
+use lib.Dec.{ltb}
 use lib.ListN.{length, take, drop, getD, length-append, length-take, length-drop}
 use lib.Seq.{drop-append-le}
+use Rattle.integers.proofs.Bools.{by}
 use Rattle.sheet.specs.declared.Shape.{Shape}
 use Rattle.sheet.specs.declared.Curve.{Curve}
 use Rattle.sheet.specs.Limits.{pointsMost, levelsMost, layersMost, stepMost}
@@ -20,162 +22,217 @@ use Rattle.text.specs.Text.{padded}
 use Rattle.text.specs.Line.{newline, indexOf, starts, hasEnd, lineAt}
 use Rattle.text.specs.Joined.{numbersIn}
 use Rattle.text.proofs.Digits.{length-le}
-use Rattle.text.proofs.Joins.{joined-length}
+use Rattle.text.proofs.Joins.{joined-length, written-back}
 use Rattle.text.proofs.Lines.{Written, written}
 use Rattle.header.specs.declared.Header.{Header}
 use Rattle.header.specs.Refusals.{refusal}
-use Rattle.header.specs.Header.{asciiFrom, ascii, cellBytes, cellsOf}
+use Rattle.header.specs.Header.{asciiFrom, ascii, cellBytes, planesOf}
+use Rattle.header.specs.Losses.{closed, lossesMost}
 use Rattle.header.specs.Workings.{cellsMost}
-use Rattle.header.specs.Opening.{Opening, notOpened, taking, curveLine, curveOf, limits, counted, takingPlanes, openingCells, openingPlanes, openingStep, openingCurve, openingLevels, openingCols, opening}
+use Rattle.header.specs.Opening.{Opening, opened, notOpened, taking, curveLine, curveOf, limits, listed, takingNumbers, openingCells, openingTold, openingLosses, openingPlanes, openingStep, openingCurve, openingLevels, openingCols, openingRows, afterFirst, opening}
 use Rattle.header.proofs.HeaderLines.{headed}
 use Rattle.header.proofs.Counts.{Counted, counts-read}
-use Rattle.header.proofs.Opens.{padded-in}
-use Rattle.header.proofs.WellFormed.{most-le}
-use Rattle.header.proofs.Total.{cells-most}
-use Rattle.header.proofs.Turns.{PlanesLine}
+use Rattle.header.proofs.Opens.{padded-in, padded-past}
+use Rattle.header.proofs.TextLength.{losses-fit}
+use Rattle.header.proofs.WellFormed.{WellFormed, most-le}
+use Rattle.header.proofs.Total.{right-cells}
+use Rattle.header.proofs.Turns.{NumbersLine}
 use Rattle.display.specs.Workings.{bufferBytes, longNumber}
 use Rattle.display.proofs.LongLines.{taken-long, prolonged, line-long, line-short, curve-long, curve-short}
 
--- ---- what the first bytes answer, and what all of it answers
-abbrev Long : Bool → Opening → Opening → Type 0
-Long ends o all = all .refused .number ≡ longNumber (o .refused .number) ends
+-- ---- what the first bytes answer, and what all of it answers: how it is to be is any relation that holds of a cut line and of a wrong one
+abbrev Cut : Bool → (Opening → Opening → Type 0) → Type 0
+Cut ends R = (n : ℕ) → R (notOpened (refusal 5 0 0)) (cond ends (notOpened (refusal 6 n 0)) (notOpened (refusal 5 0 0)))
 
-cut-long : (ends : Bool) (n : ℕ) (go : ℕ → ℕ → Opening) → Long ends (notOpened (refusal 5 0 0)) (taking n (prolonged ends L.Short) go)
-cut-long true n go = refl
-cut-long false n go = refl
+abbrev Wrong : (Opening → Opening → Type 0) → Type 0
+Wrong R = (n : ℕ) → R (notOpened (refusal 6 n 0)) (notOpened (refusal 6 n 0))
 
-turn-long : (ends : Bool) (n : ℕ) (x : Line) (go all : ℕ → ℕ → Opening) → ((v k : ℕ) → x ≡ L.Number v k → Long ends (go v k) (all v k)) → Long ends (taking n x go) (taking n (prolonged ends x) all)
-turn-long ends n L.Short go all h = cut-long ends n all
-turn-long ends n L.Wrong go all h = refl
-turn-long ends n (L.Number v k) go all h = h v k refl
+turn-long : (R : Opening → Opening → Type 0) (ends : Bool) → Cut ends R → Wrong R → (n : ℕ) (x : Line) (go all : ℕ → ℕ → Opening)
+    → ((v k : ℕ) → x ≡ L.Number v k → R (go v k) (all v k)) → R (taking n x go) (taking n (prolonged ends x) all)
+turn-long R true cut wrong n L.Short go all h = cut n
+turn-long R false cut wrong n L.Short go all h = cut n
+turn-long R ends cut wrong n L.Wrong go all h = wrong n
+turn-long R ends cut wrong n (L.Number v k) go all h = h v k refl
 
--- ---- line 6: its key, and counts of at most two digits each
-abbrev planesMost : ℕ
-planesMost = 7 + 3 * layersMost
+-- does a text start with a key? What follows enough of it does not matter
+starts-long : (key l rest : List ℕ) → length key ≤ length l → starts key (l ++ rest) ≡ starts key l
+unfolding starts
+starts-long [] l rest h = refl
+starts-long (k ∷ key) [] rest h = absurd (let z : ⊥ = omega arith in z)
+starts-long (k ∷ key) (x ∷ l) rest h = rw (starts-long key l rest (omega arith))
 
-counts-short : (sh : Shape) (text counts : List ℕ) → layers sh ≤ layersMost → Counted sh text counts → length text ≤ 3 * layersMost
-counts-short sh text counts few c =
+-- ---- a line n of a key and numbers, whose text has at most `room` bytes where it is right
+module _ (n : ℕ) (key most : List ℕ) (room : ℕ) (few : (text ns : List ℕ) → numbersIn most text ≡ some ns → length text ≤ room) where
+  abbrev numbers-in : List ℕ → Option (List ℕ)
+  numbers-in line = numbersIn most (drop (length key) line)
+
+  abbrev numbers-line : (List ℕ → ℕ → Opening) → List ℕ → ℕ → Opening
+  numbers-line go line b = cond (starts key line) (listed n (numbers-in line) (λ ns. go ns (b + 1))) (notOpened (refusal 6 n 0))
+
+  numbers-wrong : (go : List ℕ → ℕ → Opening) (line : List ℕ) (b : ℕ) → length key + room < length line → numbers-line go line b ≡ notOpened (refusal 6 n 0)
+  numbers-wrong go line b h = cases (starts key line) (numbers-in line) refl
+    where
+      cases : (s : Bool) (o : Option (List ℕ)) → numbers-in line ≡ o → cond s (listed n o (λ ns. go ns (b + 1))) (notOpened (refusal 6 n 0)) ≡ notOpened (refusal 6 n 0)
+      cases false o e = refl
+      cases true none e = refl
+      cases true (some ns) e = absurd (let z : ⊥ = omega (arith, few (drop (length key) line) ns e, length-drop (length key) line) in z)
+
+  -- how long it is where it is right
+  numbers-short : (l ns : List ℕ) → NumbersLine key most l ns → indexOf newline l ≤ length key + room
+  numbers-short l ns p =
+      let line = take (indexOf newline l) l in
+      omega (arith, p .inside, few (drop (length key) line) ns (p .numbers-are), length-drop (length key) line, length-take (indexOf newline l) l)
+
+  module _ (R : Opening → Opening → Type 0) (l rest : List ℕ) (cut : Cut (hasEnd rest) R) (wrong : Wrong R) (go all : List ℕ → ℕ → Opening)
+      (follows : (ns : List ℕ) → NumbersLine key most l ns → R (go ns (indexOf newline l + 1)) (all ns (indexOf newline l + 1))) where
+    numbers-same : indexOf newline l < length l → R (numbers-line go (take (indexOf newline l) l) (indexOf newline l)) (numbers-line all (take (indexOf newline l) l) (indexOf newline l))
+    numbers-same h = cases (starts key (take (indexOf newline l) l)) (numbers-in (take (indexOf newline l) l)) refl refl
+      where
+        cases : (s : Bool) (o : Option (List ℕ)) → starts key (take (indexOf newline l) l) ≡ s → numbers-in (take (indexOf newline l) l) ≡ o
+            → R
+            (cond s (listed n o (λ ns. go ns (indexOf newline l + 1))) (notOpened (refusal 6 n 0)))
+            (cond s (listed n o (λ ns. all ns (indexOf newline l + 1))) (notOpened (refusal 6 n 0)))
+        cases false o e f = wrong n
+        cases true none e f = wrong n
+        cases true (some ns) e f = follows ns (record { inside = h; key-is = e; numbers-are = f })
+
+    numbers-long : length key + room < length l → R (takingNumbers n key most l go) (takingNumbers n key most (l ++ rest) all)
+    numbers-long h =
+        taken-long (notOpened (refusal 5 0 0)) (numbers-line go) (numbers-line all) R l rest
+        numbers-same
+        (λ e line m. rw (numbers-wrong all line (length line) (omega arith)) (rw e at (cut n)))
+        (λ e. rw e at (cut n))
+
+-- ---- the counts of line 6 have at most two digits each, and the losses of line 7 at most seven
+counts-few : (sh : Shape) → layers sh ≤ layersMost → (text ns : List ℕ) → numbersIn (limits sh) text ≡ some ns → length text ≤ 3 * layersMost
+counts-few sh few text ns e =
+    let c : Counted sh text ns = counts-read sh text ns e in
     omega (
       arith,
       ap length (c .text-is),
       c .long,
-      joined-length 2 counts (λ i l. length-le 1 (getD counts i 0) (omega (arith, c .most i (omega (arith, c .long)), most-le sh i))),
+      joined-length 2 ns (λ i l. length-le 1 (getD ns i 0) (omega (arith, c .most i (omega (arith, c .long)), most-le sh i))),
     )
 
-module _ (sh : Shape) (few : layers sh ≤ layersMost) where
-  abbrev counts-in : List ℕ → Option (List ℕ)
-  counts-in line = numbersIn (limits sh) (drop (length (ascii "planes=")) line)
+losses-few : {h : Header} → WellFormed h → (text ns : List ℕ) → numbersIn (closed (planesOf h) (layers (h .shape))) text ≡ some ns → length text ≤ 8 * lossesMost
+losses-few r text ns e = let w = written-back _ text ns e in omega (arith, ap length (w .text-is), losses-fit r ns (w .within))
 
-  abbrev planes-line : (List ℕ → ℕ → Opening) → List ℕ → ℕ → Opening
-  planes-line go line b = cond (starts (ascii "planes=") line) (counted (counts-in line) (λ planes. go planes (b + 1))) (notOpened (refusal 6 6 0))
-
-  planes-wrong : (go : List ℕ → ℕ → Opening) (line : List ℕ) (b : ℕ) → planesMost < length line → planes-line go line b .refused .number ≡ 6
-  unfolding asciiFrom
-  planes-wrong go line b h = cases (starts (ascii "planes=") line) (counts-in line) refl
-    where
-      cases : (s : Bool) (o : Option (List ℕ)) → counts-in line ≡ o → cond s (counted o (λ planes. go planes (b + 1))) (notOpened (refusal 6 6 0)) .refused .number ≡ 6
-      cases false o e = refl
-      cases true none e = refl
-      cases true (some counts) e =
-          let c = counts-read sh (drop 7 line) counts e in
-          absurd (let z : ⊥ = omega (arith, counts-short sh (drop 7 line) counts few c, length-drop 7 line) in z)
-
-  module _ (l rest : List ℕ) (go all : List ℕ → ℕ → Opening) (follows : (counts : List ℕ) → PlanesLine sh l counts → Long (hasEnd rest) (go (padded layersMost counts) (indexOf newline l + 1)) (all (padded layersMost counts) (indexOf newline l + 1))) where
-    planes-same : indexOf newline l < length l → Long (hasEnd rest) (planes-line go (take (indexOf newline l) l) (indexOf newline l)) (planes-line all (take (indexOf newline l) l) (indexOf newline l))
-    planes-same h = cases (starts (ascii "planes=") (take (indexOf newline l) l)) (counts-in (take (indexOf newline l) l)) refl refl
-      where
-        cases : (s : Bool) (o : Option (List ℕ)) → starts (ascii "planes=") (take (indexOf newline l) l) ≡ s → counts-in (take (indexOf newline l) l) ≡ o
-            → Long (hasEnd rest)
-            (cond s (counted o (λ planes. go planes (indexOf newline l + 1))) (notOpened (refusal 6 6 0)))
-            (cond s (counted o (λ planes. all planes (indexOf newline l + 1))) (notOpened (refusal 6 6 0)))
-        cases false o e f = refl
-        cases true none e f = refl
-        cases true (some counts) e f = follows counts (record { inside = h; key = e; counts-are = f })
-
-    planes-long : planesMost < length l → Long (hasEnd rest) (takingPlanes sh l go) (takingPlanes sh (l ++ rest) all)
-    planes-long h =
-        taken-long (notOpened (refusal 5 0 0)) (planes-line go) (planes-line all) (Long (hasEnd rest)) l rest
-        planes-same
-        (λ e line m. rw e (planes-wrong all line (length line) (omega arith)))
-        (λ e. rw e)
-
-  -- how long it is where it is right
-  planes-short : (l counts : List ℕ) → PlanesLine sh l counts → indexOf newline l ≤ planesMost
-  unfolding asciiFrom
-  planes-short l counts p =
-      let line = take (indexOf newline l) l in
-      let c = counts-read sh (drop 7 line) counts (p .counts-are) in
-      omega (arith, p .inside, counts-short sh (drop 7 line) counts few c, length-drop 7 line, length-take (indexOf newline l) l)
-
--- ---- the lines in turn. A line that is read has at most 28 bytes (line 6 a few more), so at most 256 stand before line 7 and the first bytes have far more behind
+-- ---- the lines in turn. A line that is read has at most 28 bytes, line 6 a few more and the line of losses 2,398: so at most 4,096 stand before the line of cells and the first bytes have far more behind
 module _ (bs rest : List ℕ) (enough : bufferBytes ≤ length bs) where
-  behind : (at : ℕ) → at ≤ 512 → drop at (bs ++ rest) ≡ drop at bs ++ rest
+  behind : (at : ℕ) → at ≤ 4096 → drop at (bs ++ rest) ≡ drop at bs ++ rest
   behind at h = drop-append-le at bs rest (omega arith)
 
   abbrev ends : Bool
   ends = hasEnd rest
 
-  line-turn : (n : ℕ) (key : List ℕ) (low high at : ℕ) (go all : ℕ → ℕ → Opening) → at ≤ 512 → length key ≤ 512 → high < 2 ^ 64
-      → ((v k : ℕ) → lineAt key low high (drop at bs) ≡ L.Number v k → k ≤ length key + 21 → Long ends (go v k) (all v k))
-      → Long ends (taking n (lineAt key low high (drop at bs)) go) (taking n (lineAt key low high (drop at (bs ++ rest))) all)
-  line-turn n key low high at go all h k small follows =
-      rw (behind at h, line-long key low high small (drop at bs) rest (omega (arith, length-drop at bs)))
-      (turn-long ends n (lineAt key low high (drop at bs)) go all (λ v m e. follows v m e (line-short key low high small (drop at bs) v m e)))
+  module _ (R : Opening → Opening → Type 0) (cut : Cut ends R) (wrong : Wrong R) where
+    line-turn : (n : ℕ) (key : List ℕ) (low high at : ℕ) (go all : ℕ → ℕ → Opening) → at ≤ 4096 → length key ≤ 512 → high < 2 ^ 64
+        → ((v k : ℕ) → lineAt key low high (drop at bs) ≡ L.Number v k → k ≤ length key + 21 → R (go v k) (all v k))
+        → R (taking n (lineAt key low high (drop at bs)) go) (taking n (lineAt key low high (drop at (bs ++ rest))) all)
+    line-turn n key low high at go all h k small follows =
+        rw (behind at h, line-long key low high small (drop at bs) rest (omega (arith, length-drop at bs)))
+        (turn-long R ends cut wrong n (lineAt key low high (drop at bs)) go all (λ v m e. follows v m e (line-short key low high small (drop at bs) v m e)))
 
-  -- behind line 7 there is room for at most 1,012 cells, and more bytes are there
-  cells-long : (h : Header) (at : ℕ) → at ≤ 256 → h .cells ≤ cellsMost → Long ends (openingCells bs h at) (openingCells (bs ++ rest) h at)
+  -- ---- behind the first six lines
+  abbrev Long : Opening → Opening → Type 0
+  Long o all = all .refused .number ≡ longNumber (o .refused .number) ends
+
+  long-cut : Cut ends Long
+  long-cut n = by ends (λ t. rw t) (λ t. rw t)
+
+  long-wrong : Wrong Long
+  long-wrong n = refl
+
+  -- behind the line of cells there is room for at most 1,012 cells, and more bytes are there
+  cells-long : (h : Header) (losses : Option (List ℕ)) (line at : ℕ) → at ≤ 4096 → h .cells ≤ cellsMost → Long (openingCells bs h losses line at) (openingCells (bs ++ rest) h losses line at)
   unfolding openingCells asciiFrom
-  cells-long h at l few =
-      line-turn 7 (ascii "cells=") (h .cells) (h .cells) at _ _ (omega arith) (omega arith) (omega arith) (λ v n _ m.
+  cells-long h losses line at l few =
+      line-turn Long long-cut long-wrong line (ascii "cells=") (h .cells) (h .cells) at _ _ (omega arith) (omega arith) (omega arith) (λ v n _ m.
       rw (
         lt-ltb (at + n + cellBytes * h .cells) (length bs) (omega arith),
         lt-ltb (at + n + cellBytes * h .cells) (length (bs ++ rest)) (omega (arith, length-append bs rest)),
       ))
 
+  module _ {h : Header} (r : WellFormed h) (at : ℕ) (l : at ≤ 256) where
+    told-long : Long (openingTold bs h at) (openingTold (bs ++ rest) h at)
+    unfolding openingTold asciiFrom
+    told-long =
+        rw (behind at (omega arith))
+        (numbers-long 7 (ascii "loss=") (closed (planesOf h) (layers (h .shape))) (8 * lossesMost) (losses-few r) Long (drop at bs) rest long-cut long-wrong
+        (λ ls n. openingCells bs h (some ls) 8 (at + n))
+        (λ ls n. openingCells (bs ++ rest) h (some ls) 8 (at + n))
+        (λ ls p. cells-long h (some ls) 8 (at + (indexOf newline (drop at bs) + 1)) (omega (arith, numbers-short 7 (ascii "loss=") (closed (planesOf h) (layers (h .shape))) (8 * lossesMost) (losses-few r) (drop at bs) ls p)) (right-cells r))
+        (omega (arith, length-drop at bs)))
+
+    losses-long : Long (openingLosses bs h at) (openingLosses (bs ++ rest) h at)
+    unfolding openingLosses
+    losses-long =
+        let same : starts (ascii "loss=") (drop at (bs ++ rest)) ≡ starts (ascii "loss=") (drop at bs) =
+        rw (behind at (omega arith)) (starts-long (ascii "loss=") (drop at bs) rest (unfold asciiFrom in (omega (arith, length-drop at bs)))) in
+        by (starts (ascii "loss=") (drop at bs))
+        (λ t. rw (same, t) told-long)
+        (λ t. rw (same, t) (cells-long h none 7 at (omega arith) (right-cells r)))
+
+  -- ---- the first six lines, and what follows them
+  abbrev First : Opening → Opening → Type 0
+  First o all = Long (afterFirst o (openingLosses bs)) (afterFirst all (openingLosses (bs ++ rest)))
+
+  first-cut : Cut ends First
+  first-cut n = by ends (λ t. rw t) (λ t. rw t)
+
+  first-wrong : Wrong First
+  first-wrong n = refl
+
   module _ (sh : Shape) (ok : accepted sh ≡ true) where
     few : layers sh ≤ layersMost
     few = layers-few sh (accepted-yes sh ok)
 
-    cells-few : (l counts : List ℕ) → PlanesLine sh l counts → cellsOf sh (padded layersMost counts) ≤ cellsMost
-    cells-few l counts p =
-        let c = counts-read sh _ counts (p .counts-are) in
-        cells-most sh ok (padded layersMost counts) (λ k h.
-        rw (padded-in counts (omega (arith, c .long, few)) k (omega (arith, c .long))) (omega (arith, c .most k h, most-le sh k)))
+    -- the header that the counts make is a right one
+    header-right : (curve : Curve) (step : ℕ) → step ≤ stepMost → (l counts : List ℕ) → NumbersLine (ascii "planes=") (limits sh) l counts → WellFormed (headed sh curve step (padded layersMost counts))
+    header-right curve step s l counts p =
+        let c = counts-read sh _ counts (p .numbers-are) in
+        record {
+          shape = ok;
+          step = s;
+          counts = λ k _. by (ltb k (length counts))
+              (λ t. rw (padded-in counts (omega (arith, c .long, few)) k (ltb-true k (length counts) t)) (c .most k (omega (arith, c .long, ltb-true k (length counts) t))))
+              (λ t. rw (padded-past counts k (ltb-false k (length counts) t)) (omega arith));
+          cells = refl;
+        }
 
-    planes-turn : (curve : Curve) (step at : ℕ) → at ≤ 128 → Long ends (openingPlanes bs sh curve step at) (openingPlanes (bs ++ rest) sh curve step at)
-    unfolding openingPlanes
-    planes-turn curve step at h =
+    planes-turn : (curve : Curve) (step at : ℕ) → step ≤ stepMost → at ≤ 128 → First (openingPlanes bs sh curve step at) (openingPlanes (bs ++ rest) sh curve step at)
+    unfolding openingPlanes asciiFrom
+    planes-turn curve step at s h =
         let line = drop at bs in
-        let header : List ℕ → Header = headed sh curve step in
         rw (behind at (omega arith))
-        (planes-long sh few line rest
-        (λ planes n. openingCells bs (header planes) (at + n))
-        (λ planes n. openingCells (bs ++ rest) (header planes) (at + n))
-        (λ counts p. cells-long (header (padded layersMost counts)) (at + (indexOf newline line + 1)) (omega (arith, planes-short sh few line counts p)) (cells-few line counts p))
+        (numbers-long 6 (ascii "planes=") (limits sh) (3 * layersMost) (counts-few sh few) First line rest first-cut first-wrong
+        (λ counts n. opened (headed sh curve step (padded layersMost counts)) none (at + n))
+        (λ counts n. opened (headed sh curve step (padded layersMost counts)) none (at + n))
+        (λ counts p. losses-long (header-right curve step s line counts p) (at + (indexOf newline line + 1)) (omega (arith, numbers-short 6 (ascii "planes=") (limits sh) (3 * layersMost) (counts-few sh few) line counts p)))
         (omega (arith, length-drop at bs)))
 
-    step-turn : (curve : Curve) (at : ℕ) → at ≤ 96 → Long ends (openingStep bs sh curve at) (openingStep (bs ++ rest) sh curve at)
+    step-turn : (curve : Curve) (at : ℕ) → at ≤ 96 → First (openingStep bs sh curve at) (openingStep (bs ++ rest) sh curve at)
     unfolding openingStep asciiFrom
     step-turn curve at h =
-        line-turn 5 (ascii "step=") 0 stepMost at
+        line-turn First first-cut first-wrong 5 (ascii "step=") 0 stepMost at
         (λ step n. openingPlanes bs sh curve step (at + n))
         (λ step n. openingPlanes (bs ++ rest) sh curve step (at + n))
         (omega arith) (omega arith) (omega arith)
-        (λ step n _ m. planes-turn curve step (at + n) (omega arith))
+        (λ step n e m. planes-turn curve step (at + n) (written (ascii "step=") 0 stepMost _ _ _ e .most) (omega arith))
 
-    curve-turn : (at : ℕ) → at ≤ 83 → Long ends (openingCurve bs sh at) (openingCurve (bs ++ rest) sh at)
+    curve-turn : (at : ℕ) → at ≤ 83 → First (openingCurve bs sh at) (openingCurve (bs ++ rest) sh at)
     unfolding openingCurve
     curve-turn at h =
         rw (behind at (omega arith), curve-long (drop at bs) rest (omega (arith, length-drop at bs)))
-        (turn-long ends 4 (curveLine (drop at bs))
+        (turn-long First ends first-cut first-wrong 4 (curveLine (drop at bs))
         (λ v n. openingStep bs sh (curveOf v) (at + n))
         (λ v n. openingStep (bs ++ rest) sh (curveOf v) (at + n))
         (λ v n e. step-turn (curveOf v) (at + n) (omega (arith, curve-short (drop at bs) v n e))))
 
-  levels-turn : (rows cols at : ℕ) → 1 ≤ rows → 1 ≤ cols → rows * cols ≤ pointsMost → at ≤ 55 → Long ends (openingLevels bs rows cols at) (openingLevels (bs ++ rest) rows cols at)
+  levels-turn : (rows cols at : ℕ) → 1 ≤ rows → 1 ≤ cols → rows * cols ≤ pointsMost → at ≤ 55 → First (openingLevels bs rows cols at) (openingLevels (bs ++ rest) rows cols at)
   unfolding openingLevels asciiFrom
   levels-turn rows cols at tall wide small h =
-      line-turn 3 (ascii "levels=") 0 levelsMost at
+      line-turn First first-cut first-wrong 3 (ascii "levels=") 0 levelsMost at
       (λ levels n. openingCurve bs (sheetOf rows cols levels) (at + n))
       (λ levels n. openingCurve (bs ++ rest) (sheetOf rows cols levels) (at + n))
       (omega arith) (omega arith) (omega arith)
@@ -183,10 +240,10 @@ module _ (bs rest : List ℕ) (enough : bufferBytes ≤ length bs) where
       let w : Written (ascii "levels=") 0 levelsMost (drop at bs) levels n = written (ascii "levels=") 0 levelsMost _ _ _ e in
       curve-turn (sheetOf rows cols levels) (accepted-by (sheetOf rows cols levels) (record { thick = omega arith; flat = omega arith; tall = tall; wide = wide; small = omega arith; shallow = w .most })) (at + n) (omega arith))
 
-  cols-turn : (rows at : ℕ) → 1 ≤ rows → at ≤ 29 → Long ends (openingCols bs rows at) (openingCols (bs ++ rest) rows at)
+  cols-turn : (rows at : ℕ) → 1 ≤ rows → at ≤ 29 → First (openingCols bs rows at) (openingCols (bs ++ rest) rows at)
   unfolding openingCols asciiFrom
   cols-turn rows at tall h =
-      line-turn 2 (ascii "cols=") 1 (pointsMost / rows) at
+      line-turn First first-cut first-wrong 2 (ascii "cols=") 1 (pointsMost / rows) at
       (λ cols n. openingLevels bs rows cols (at + n))
       (λ cols n. openingLevels (bs ++ rest) rows cols (at + n))
       (omega arith) (omega arith) (omega (arith, div-le-self pointsMost rows))
@@ -196,7 +253,7 @@ module _ (bs rest : List ℕ) (enough : bufferBytes ≤ length bs) where
       levels-turn rows cols (at + n) tall (w .least) (omega (arith, mul-comm cols rows)) (omega arith))
 
   pub long-opening : opening (bs ++ rest) .refused .number ≡ longNumber (opening bs .refused .number) (hasEnd rest)
-  unfolding opening asciiFrom
+  unfolding opening openingRows asciiFrom
   long-opening =
-      line-turn 1 (ascii "rows=") 1 pointsMost 0 (openingCols bs) (openingCols (bs ++ rest)) (omega arith) (omega arith) (omega arith)
+      line-turn First first-cut first-wrong 1 (ascii "rows=") 1 pointsMost 0 (openingCols bs) (openingCols (bs ++ rest)) (omega arith) (omega arith) (omega arith)
       (λ rows n e m. cols-turn rows n (written (ascii "rows=") 1 pointsMost _ _ _ e .least) (omega arith))

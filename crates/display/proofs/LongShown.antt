@@ -21,12 +21,12 @@ use Rattle.display.specs.Workings.{bufferBytes, longNumber, inputNumber}
 use Rattle.display.proofs.AllPieces.{refused-shown}
 use Rattle.display.proofs.LongInput.{long-opening}
 
--- a card has at most 32,768 bytes
-long-refused : (bs : List ℕ) → 32768 < length bs → Accepts (opening bs) → ⊥
+-- a card has at most 36,864 bytes
+long-refused : (bs : List ℕ) → 36864 < length bs → Accepts (opening bs) → ⊥
 long-refused bs h e =
     let o = opened-right bs e in
-    let text = headerText (opening bs .header) in
-    let z : ⊥ = omega (arith, ap length (o .text-is), length-append text (drop (opening bs .long) bs), o .body-fits, card-fits (right-yes (opening bs .header) (o .right-is))) in
+    let text = headerText (opening bs .header) (opening bs .losses) in
+    let z : ⊥ = omega (arith, ap length (o .text-is), length-append text (drop (opening bs .long) bs), o .body-fits, card-fits (right-yes (opening bs .header) (o .right-is)) (opening bs .losses) (o .losses-fit)) in
     z
 
 module _ (bs rest : List ℕ) (enough : bufferBytes ≤ length bs) where

@@ -29,7 +29,7 @@ use Rattle.display.proofs.Seeing.{shape-is, cut}
 abbrev pub rolledIn : List ℕ → List ℕ → Rolling
 rolledIn page bs = rolling (room bs) (room bs) page bs
 
-module _ (bs : List ℕ) (o : Opened) (e : O.asOpening o ≡ opening bs) where
+module _ (bs : List ℕ) (o : Opened) (e : O.asOpening o (opening bs .losses) ≡ opening bs) where
   pub in-room : {n : ℕ} {cs ws : List ℤ} {r : Rolling} (page : List ℕ) → n ≡ points (o .header .shape) → cs ≡ replicate pointsMost (pos 0) → ws ≡ replicate pointsMost (pos 0) → r ≡ rolling (take n cs) (take n ws) page bs → r ≡ rolledIn page bs
   in-room {n} {cs} {ws} page long c w rolled =
       rolled

@@ -33,7 +33,7 @@ module _ {A : Type 0} (x : A) where
         let long = ap length is ∙ length-replicate pointsMost x in
         (omega (arith, long), omega (arith, long, length-take n l))
 
-module _ (bs : List ℕ) (o : Opened) (e : O.asOpening o ≡ opening bs) where
+module _ (bs : List ℕ) (o : Opened) (e : O.asOpening o (opening bs .losses) ≡ opening bs) where
   pub shape-is : o .header .shape ≡ opening bs .header .shape
   shape-is = ap (λ (x : Opening). x .header .shape) e
 

@@ -81,7 +81,7 @@ pieceAt s vs i =
 abbrev pub pieces : ℕ → List ℤ → ℕ
 pieces number vs = cond (eqb number 0) (sheetLines + length vs) 1
 
--- ---- an input that is longer than any card, which has at most 32,768 bytes
+-- ---- an input that is longer than any card, which has at most 36,864 bytes
 -- so much is read before an input is known to be one
 abbrev pub bufferBytes : ℕ
 bufferBytes = 40000

@@ -58,7 +58,7 @@ pub const MOST_PAGE: usize = roll::LINE_BYTES * (MOST_POINTS + 1);
 // Room for the lines of marks of any sheet: its points, and a line's end for each row.
 pub const MOST_MARKS: usize = 2 * MOST_POINTS;
 
-// How much of an input is read at first. A card has at most 32,768 bytes, so an input that has as many as this is none.
+// How much of an input is read at first. A card has at most 36,864 bytes, so an input that has as many as this is none.
 pub const BUFFER: usize = 40000;
 
 // How much more is looked at in one turn.

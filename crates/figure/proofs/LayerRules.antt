@@ -1,8 +1,9 @@
--- The rules of a layer: carrying rises strictly and at most doubles what stands, so what the call tells of a small number is just that; and of a right header the charge that is told is the layer's, far below 2^40.
+-- The rules of a layer: carrying rises strictly and at most doubles what stands, so what the call tells of a small number is just that; and of a right header the charge that is told is the layer's, at most 2^49.
+use mathlib.Core.List.{List}
 use mathlib.Core.Path.{_≡_, ap}
 use Prim.Native.Nat.{ℕ, _*_, _^_, _<_, _≤_}
 use native.Mathlib.Omega.{arith}
-use borrow.Author.Tests.{lt-ltb, le-leb}
+use borrow.Author.Tests.{le-leb}
 use Rattle.integers.specs.Floor.{ceilDiv}
 use Rattle.sheet.specs.declared.Curve.{Curve}
 use Rattle.sheet.specs.declared.Curve.the-variants.{Linear, Cubic}
@@ -10,14 +11,15 @@ use Rattle.layers.specs.Carry.{carried}
 use Rattle.sheet.specs.Limits.{layersMost}
 use Rattle.layers.proofs.Carry.{carried-rising}
 use Rattle.header.specs.declared.Header.{Header}
-use Rattle.header.specs.Header.{planesOf}
+use Rattle.header.specs.Header.{planesOf, total}
 use Rattle.header.proofs.WellFormed.{WellFormed, counts-few}
 use Rattle.figure.specs.declared.Rule.{Rule}
 use Rattle.figure.specs.Workings.{ruleOf, carriedIn, carryOf, chargeOf, chargeIn}
+use Rattle.figure.proofs.Numbers.{Small}
 use Rattle.figure.proofs.Figures.{own-most}
 
 -- ---- carrying
-carried-double : (curve : Curve) (m : ℕ) → carried curve m ≤ 2 * m
+pub carried-double : (curve : Curve) (m : ℕ) → carried curve m ≤ 2 * m
 unfolding carried ceilDiv
 carried-double Linear m = omega arith
 carried-double Cubic m = omega arith
@@ -37,11 +39,11 @@ module _ (h : Header) (k : ℕ) where
   carry-rising a b l = carried-rising (ruleOf h k .curve) a b l
 
 -- ---- what a layer adds
-module _ {h : Header} (r : WellFormed h) (k n : ℕ) (l : k < layersMost) where
-  pub charge-told : n ≤ planesOf h k → chargeIn h k n ≡ chargeOf h k n
-  unfolding chargeIn
-  charge-told few = rw (lt-ltb _ _ l, le-leb _ _ (r .step), le-leb _ _ (counts-few r k l), le-leb _ _ few)
+module _ {h : Header} (r : WellFormed h) (ls : List ℕ) (k n : ℕ) (l : k < layersMost) where
+  pub charge-told : (first : ℕ) → first ≡ total (planesOf h) k → n ≤ planesOf h k → chargeIn ls first (planesOf h k) n (h .step) ≡ chargeOf h ls k n
+  unfolding chargeIn chargeOf
+  charge-told first e few = rw (le-leb _ _ (r .step), le-leb _ _ (counts-few r k l), le-leb _ _ few, e)
 
-  pub charge-most : chargeOf h k n ≤ 2 ^ 40
+  pub charge-most : Small ls → chargeOf h ls k n ≤ 2 ^ 49
   unfolding chargeOf
-  charge-most = omega (arith, own-most r (λ _. n) k l)
+  charge-most small = omega (arith, own-most r ls small (λ _. n) k l)

@@ -1,12 +1,10 @@
--- The figure's limits: a layer loses no more where fewer digits are missing, and what stands after k layers rises by a fixed recursion, which stays far below 2 ^ 60.
+-- The figure's limits: what stands after k layers rises by a fixed recursion, which stays far below 2 ^ 60.
 use mathlib.Core.Path.{_≡_, refl, _∙_}
-use Prim.Native.Nat.{ℕ, zero, suc, _+_, _*_, _-_, _^_, _<_, _≤_}
+use Prim.Native.Nat.{ℕ, zero, suc, _+_, _*_, _<_, _≤_}
 use native.Mathlib.Nat.{le-refl}
 use native.Mathlib.Omega.{arith}
 use lib.Dec.{eqb}
 use borrow.Author.Tests.{eqb-true, eqb-false}
-use Rattle.digits.specs.Digits.{loss}
-use Rattle.digits.proofs.Losses.{loss-rises}
 use Rattle.sheet.specs.declared.Shape.{Shape}
 use Rattle.sheet.specs.declared.Curve.{Curve}
 use Rattle.sheet.specs.declared.Curve.the-variants.{Cubic}
@@ -17,17 +15,7 @@ use Rattle.integers.proofs.Bools.{by, choice}
 use Rattle.layers.proofs.Carry.{carried-up, carried-none, carried-mono, carried-cubic}
 use Rattle.layers.proofs.Range.{limit}
 use Rattle.layers.proofs.Standing.{standing-empty, standing-more}
-use Rattle.header.specs.Header.{placesMost}
 
--- ---- the loss of all the planes of a layer
-abbrev pub lossMost : ℕ
-lossMost = 2 ^ (placesMost - 1)
-
-pub loss-most : (d : ℕ) → d ≤ placesMost → loss d ≤ lossMost
-unfolding loss
-loss-most d h = loss-rises d placesMost h
-
--- ---- what stands
 module _ (sh : Shape) (curve : Curve) (own : ℕ → ℕ) where
   pub standing-none : (k : ℕ) → ((j : ℕ) → j < k → own j ≡ 0) → standing sh curve own k ≡ 0
   unfolding standing

@@ -10,6 +10,7 @@ use Rattle.header.specs.declared.Details.{Details}
 use Rattle.figure.specs.declared.Bounded.{Bounded}
 use Rattle.header.specs.Refusals.{refusal, detailsOf}
 use Rattle.header.specs.Header.{planesOf}
+use Rattle.header.specs.Losses.{told}
 use Rattle.header.specs.Plan.{loads, firstOver}
 use Rattle.header.specs.Opening.{opening}
 use Rattle.figure.specs.Figure.{figureOf}
@@ -27,13 +28,13 @@ abbrev pub notBounded : Details → Bounding
 notBounded d = record { refused = d; figure = 0 }
 
 -- refusal 9: a layer is asked for more planes than the header names; past the last layer its counts are 0 (the first such place)
-abbrev pub boundedBy : Header → (ℕ → ℕ) → ℕ → Bounding
-boundedBy h plan place =
-    cond (ltb place layersMost) (notBounded (refusal 9 place 0)) (record { refused = refusal 0 0 0; figure = figureOf h plan })
+abbrev pub boundedBy : Header → List ℕ → (ℕ → ℕ) → ℕ → Bounding
+boundedBy h ls plan place =
+    cond (ltb place layersMost) (notBounded (refusal 9 place 0)) (record { refused = refusal 0 0 0; figure = figureOf h ls plan })
 
 unfoldable pub bounding : List ℕ → Plan → Bounding
 bounding bs plan =
     let o = opening bs in
     cond (eqb (o .refused .number) 0)
-    (boundedBy (o .header) (loads plan) (firstOver (planesOf (o .header)) (loads plan)))
+    (boundedBy (o .header) (told (o .losses)) (loads plan) (firstOver (planesOf (o .header)) (loads plan)))
     (notBounded (o .refused))

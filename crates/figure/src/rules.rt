@@ -1,13 +1,15 @@
 // The rules of a layer: how it carries what stands before it, and what it adds of its own.
 ghost use mathlib.Core.Path.{_≡_};
+ghost use Prim.Native.Nat.{_≤_};
 ghost use Rattle.sheet.specs.Sheet as S;
+ghost use Rattle.header.specs.Header as Hd;
+ghost use Rattle.figure.specs.Figure as F;
 ghost use Rattle.figure.specs.Workings as W;
 use crate::Rule;
 use header::Header;
 use header::MOST_PLACES;
 use sheet::Curve;
 use sheet::Direction;
-use sheet::MOST_LAYERS;
 use sheet::MOST_STEP;
 use sheet::Shape;
 
@@ -58,23 +60,35 @@ pub fn carried(rule: Rule, m: u64) -> u64
     }
 }
 
-// What a layer adds of its own where n of its planes are loaded, loss × w. Nothing can be said of a layer that is not there, a step or a count of planes that no card has, or more planes than the layer has: the largest number.
-pub fn charge(header: Header, layer: usize, n: u64) -> u64
-    ensures { λ r. ⌜ r ≡ W.chargeIn header layer n ⌝ }
+// What d missing planes lose: the card's number for them, among those that begin at `first`; the closed loss where the card has none.
+fn loss_from(losses: &[u32], first: usize, d: u64) -> u64
+    requires { ⌜ d ≤ Hd.placesMost ⌝ }
+    ensures { λ r. ⌜ r ≡ F.lossFrom (now (losses .entry)) first d ⌝ }
 {
-    if MOST_LAYERS <= layer {
+    if losses.len() <= first {
+        return digits::loss(d);
+    }
+    if d == 0 {
+        return 0;
+    }
+    if losses.len() - first < d as usize {
+        return digits::loss(d);
+    }
+    losses[first + d as usize - 1] as u64
+}
+
+// What a layer of `count` planes adds of its own where n of them are loaded, loss × w; its numbers begin at `first`. Nothing can be said of a step or a count of planes that no card has, or of more planes than the layer has: the largest number.
+pub fn charge(losses: &[u32], first: usize, count: u64, n: u64, step: u64) -> u64
+    ensures { λ r. ⌜ r ≡ W.chargeIn (now (losses .entry)) first count n step ⌝ }
+{
+    if MOST_STEP < step {
         return u64::MAX;
     }
-    if MOST_STEP < header.step {
-        return u64::MAX;
-    }
-    let counts = header.planes;
-    let count = counts[layer];
     if MOST_PLACES < count {
         return u64::MAX;
     }
     if count < n {
         return u64::MAX;
     }
-    digits::loss(count - n) * layers::width_of(header.step)
+    loss_from(losses, first, count - n) * layers::width_of(step)
 }

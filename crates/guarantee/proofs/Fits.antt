@@ -1,6 +1,7 @@
 -- Coefficients that a card holds: they have at most 23 digits, and their shape and step are accepted. So their header is a right one, and the card is as long as it says. Those of samples are such, by the range of quantizing.
 use mathlib.Core.Bool.{true}
 use mathlib.Core.List.{List}
+use mathlib.Core.Option.{some}
 use mathlib.Core.Path.{_≡_}
 use Prim.Native.Nat.{ℕ, _+_, _*_, _<_, _≤_}
 use native.Mathlib.Omega.{arith}
@@ -17,8 +18,9 @@ use Rattle.layers.specs.Workings.Loops.{Samples}
 use Rattle.sheet.proofs.Lists.{length-tabulate}
 use Rattle.header.specs.Header.{placesMost, cellBytes, headerText}
 use Rattle.header.proofs.WellFormed.{WellFormed, few-planes}
-use Rattle.packing.specs.Planes.{planesFor, countsFor, headerFor, cardOf}
-use Rattle.packing.proofs.Cards.{header-right, card-length}
+use Rattle.packing.specs.Planes.{planesFor, countsFor, headerFor, lossesFor, cardOf}
+use Rattle.header.proofs.Laid.{LossesFit}
+use Rattle.packing.proofs.Cards.{header-right, measured-fit, card-length}
 use Rattle.packing.proofs.BodyOrder.{body-length}
 use Rattle.card.proofs.Writes.{coefs-hold}
 
@@ -29,7 +31,7 @@ pub record Fits (sh : Shape) (e : ℕ) (qs : List ℤ) : Type 0 where
 
 -- where the header ends
 abbrev pub end : Shape → Curve → ℕ → List ℤ → ℕ
-end sh curve e qs = length (headerText (headerFor sh curve e qs))
+end sh curve e qs = length (headerText (headerFor sh curve e qs) (some (lossesFor sh qs)))
 
 module _ {sh : Shape} {e : ℕ} {qs : List ℤ} (c : Fits sh e qs) (curve : Curve) where
   pub fits-right : WellFormed (headerFor sh curve e qs)
@@ -38,6 +40,9 @@ module _ {sh : Shape} {e : ℕ} {qs : List ℤ} (c : Fits sh e qs) (curve : Curv
   pub fits-full : length (headerFor sh curve e qs .planes) ≡ layersMost
   unfolding countsFor
   fits-full = length-tabulate layersMost (planesFor sh qs)
+
+  pub fits-told : LossesFit (headerFor sh curve e qs) (some (lossesFor sh qs))
+  fits-told = measured-fit sh (c .shape) qs curve e (c .step)
 
   pub fits-long : length (cardOf sh curve e qs) ≡ end sh curve e qs + cellBytes * headerFor sh curve e qs .cells
   fits-long = omega (arith, card-length sh (c .shape) qs curve e (c .step), body-length (headerFor sh curve e qs) qs (few-planes fits-right))

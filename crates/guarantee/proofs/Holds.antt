@@ -13,7 +13,7 @@ use Rattle.sheet.specs.Sheet.{sheetOf}
 use Rattle.layers.specs.Layering.{layering, coefs}
 use Rattle.layers.specs.Workings.Loops.{Samples}
 use Rattle.header.specs.declared.Header.{Header}
-use Rattle.packing.specs.Planes.{headerFor, cardOf}
+use Rattle.packing.specs.Planes.{headerFor, lossesFor, cardOf}
 use Rattle.card.specs.Writing.{Writing, done}
 use Rattle.card.specs.Reading.{showing}
 use Rattle.planner.specs.Planning.{bestByLimit, figureIn, found, byLimit}
@@ -34,6 +34,9 @@ module _ (g : List ℤ) (sh : Shape) (flat : sh .depth ≡ 1) (curve : Curve) (e
 
   abbrev h : Header
   h = headerFor sh curve e q
+
+  abbrev ls : List ℕ
+  ls = lossesFor sh q
 
   samples : Samples sh e g
   samples = passes-samples g sh curve e qs vs out flat passes
@@ -62,17 +65,17 @@ module _ (g : List ℤ) (sh : Shape) (flat : sh .depth ≡ 1) (curve : Curve) (e
       (record { gives = shows-gives samples curve n behind; figure = rw coefs-are (omega (arith, shows-figure samples curve n behind most)) })
 
   -- ---- what is planned: whatever bytes the planner was given, where they have the best plan's answer
-  planned-by : (limit : ℕ) → e ≤ limit → (bs : List ℕ) → byLimit bs limit ≡ found h (bestByLimit h limit) → PlannedWithin g sh curve e qs vs out limit (byLimit bs limit)
+  planned-by : (limit : ℕ) → e ≤ limit → (bs : List ℕ) → byLimit bs limit ≡ found h ls (bestByLimit h ls limit) → PlannedWithin g sh curve e qs vs out limit (byLimit bs limit)
   planned-by limit above bs is =
-      let b = by-limit-best h (fits-full (samples-fit samples curve) curve) limit above in
-      let meets = leb-true (figureIn h (bestByLimit h limit)) limit (b .meets) in
+      let b = by-limit-best h ls (fits-full (samples-fit samples curve) curve) limit above in
+      let meets = leb-true (figureIn h ls (bestByLimit h ls limit)) limit (b .meets) in
       record {
         answers = rw is refl;
         of-card = rw (is, coefs-are) (b .plan);
         figure = rw (is, coefs-are) refl;
         within = rw is meets;
-        gives = λ qs′ vs′ s. rw (is, whole-is) (plan-gives samples curve (bestByLimit h limit) (b .plan) limit meets qs′ vs′ s);
-        fewest = λ ns p f. rw is (omega (arith, best-fewest b ns (rw coefs-are at p) (rw coefs-are at f)));
+        gives = λ qs′ vs′ s. rw (is, whole-is) (plan-gives samples curve (bestByLimit h ls limit) (b .plan) limit meets qs′ vs′ s);
+        fewest = λ ns p f. rw is (omega (arith, best-fewest h ls b ns (rw coefs-are at p) (rw coefs-are at f)));
         own = rw is refl;
       }
 

@@ -16,10 +16,12 @@ mod RowsOpened
 mod Shows
 mod Step
 mod Taken
+mod Told
 mod Written
 pub mod Again
 pub mod Compares
 pub mod Holds
+pub mod Measures
 pub mod Middles
 pub mod Previews
 pub mod Refined

@@ -1,14 +1,15 @@
--- How far what is read is from what was written, where the planes loaded have the bits written. A coefficient as it counts has its own digits above and the middle for the missing ones below, so it is near by the loss of those; and the error law of a sheet carries that to the values.
+-- How far what is read is from what was written, where the planes loaded have the bits written. A coefficient as it counts has its own digits above and the middle for the missing ones below, so it is near by how far those are from their middle, which is at most what was measured; and the error law of a sheet carries that to the values.
 use mathlib.Core.Bool.{true}
 use mathlib.Core.List.{List}
 use mathlib.Core.Path.{_≡_, refl, sym, _∙_, subst}
-use Prim.Native.Nat.{ℕ, _<_}
+use Prim.Native.Nat.{ℕ, _<_, _≤_}
 use native.Mathlib.Omega.{arith}
 use lib.IntN.{ℤ, _+ℤ_}
 use Rattle.integers.specs.Distance.{Near}
-use Rattle.digits.specs.Digits.{digitsOf, middle, loss}
+use Rattle.integers.proofs.Near.{near-le}
+use Rattle.digits.specs.Digits.{digitsOf, middle, away}
 use Rattle.digits.proofs.Range.{Holds}
-use Rattle.digits.proofs.Expansion.{digits-length, digits-at, digits-near}
+use Rattle.digits.proofs.Expansion.{digits-length, digits-at, away-near}
 use Rattle.digits.proofs.Missing.{truncate-same}
 use Rattle.sheet.specs.declared.Shape.{Shape}
 use Rattle.sheet.specs.declared.Curve.{Curve}
@@ -16,6 +17,7 @@ use Rattle.sheet.specs.Lists.{at}
 use Rattle.sheet.specs.Sheet.{points, layers, inLayer, layerSize, pointOf, placeIn}
 use Rattle.layers.specs.Layering.{layering, counted, coefs}
 use Rattle.layers.specs.Workings.Loops.{Samples}
+use Rattle.sheet.proofs.Largest.{largest-all}
 use Rattle.sheet.proofs.Places.{place-in, point-in, point-on, point-place}
 use Rattle.layers.proofs.Counted.{counted-at}
 use Rattle.layers.proofs.Standing.{sheet-samples}
@@ -25,7 +27,7 @@ use Rattle.header.specs.Header.{planesOf}
 use Rattle.header.specs.Plan.{loads, missing}
 use Rattle.figure.specs.Figure.{figureOf}
 use Rattle.header.proofs.WellFormed.{layers-few}
-use Rattle.packing.specs.Planes.{headerFor}
+use Rattle.packing.specs.Planes.{headerFor, measuredLoss, lossesFor}
 use Rattle.loading.specs.InBytes.{coefRead, coefsRead}
 use Rattle.packing.proofs.Cards.{counts-at}
 use Rattle.loading.proofs.Loads.{coefs-long}
@@ -36,6 +38,7 @@ use Rattle.guarantee.proofs.Coefficients.{bits, length-bits, bit-at, co
 use Rattle.guarantee.proofs.Carried.{Carries, carried-digit}
 use Rattle.guarantee.proofs.Enough.{planes-hold}
 use Rattle.guarantee.proofs.Fits.{Fits, fits-right, samples-fit}
+use Rattle.guarantee.proofs.Told.{told-figure}
 
 module _ {sh : Shape} {e : ℕ} {qs : List ℤ} (c : Fits sh e qs) (curve : Curve) {long : ℕ} {bs : List ℕ} {plan : Plan}
     (carries : Carries (headerFor sh curve e qs) long bs qs plan) where
@@ -56,7 +59,12 @@ module _ {sh : Shape} {e : ℕ} {qs : List ℤ} (c : Fits sh e qs) (curve : Curv
         subst (λ (m : ℕ). Holds m own) (sym (counts-at sh qs k (omega (arith, layers-few (fits-right c curve)))))
         (planes-hold sh qs k (c .digits) hk (pointOf sh k i) (point-on sh k i hi) (point-in sh k i hi))
 
-    coef-near : Near (loss (lost k)) own (coefRead h long bs (loads plan) k i +ℤ middle (lost k))
+    -- its own low digits are no further from their middle than was measured
+    measured-own : away (lost k) own ≤ measuredLoss sh qs k (lost k)
+    unfolding measuredLoss
+    measured-own = largest-all (λ j. away (lost k) (at qs (pointOf sh k j))) (layerSize sh k) i hi
+
+    coef-near : Near (measuredLoss sh qs k (lost k)) own (coefRead h long bs (loads plan) k i +ℤ middle (lost k))
     coef-near =
         rw (
           coef-is h long bs k i (loads plan),
@@ -64,14 +72,14 @@ module _ {sh : Shape} {e : ℕ} {qs : List ℤ} (c : Fits sh e qs) (curve : Curv
               let named : p < planesOf h k = omega (arith, length-bits h long bs k i) in
               bit-at h long bs k i p named ∙ carried-digit carries k p hk named (omega arith) i hi ∙ sym (digits-at (planesOf h k) p own named)),
         )
-        (digits-near (planesOf h k) (lost k) own held (omega arith))
+        (near-le measured-own (away-near (planesOf h k) (lost k) own held (omega arith)))
 
   -- EVERY POINT of layer k
   coefs-near : (k p : ℕ) → k < layers sh → p < points sh → inLayer sh k p ≡ true
-      → Near (loss (lost k)) (at qs p) (at (counted sh (λ j. middle (lost j)) (coefsRead h long bs (loads plan))) p)
+      → Near (measuredLoss sh qs k (lost k)) (at qs p) (at (counted sh (λ j. middle (lost j)) (coefsRead h long bs (loads plan))) p)
   coefs-near k p hk hp m =
       rw (counted-at sh (c .shape) (coefsRead h long bs (loads plan)) (coefs-long h long bs (loads plan)) (λ j. middle (lost j)) k p hk hp m, coef-at h long bs (c .shape) k hk (loads plan) p hp m)
-      (subst (λ (j : ℕ). Near (loss (lost k)) (at qs j) (coefRead h long bs (loads plan) k (placeIn sh k p) +ℤ middle (lost k))) (point-place sh k p hp m)
+      (subst (λ (j : ℕ). Near (measuredLoss sh qs k (lost k)) (at qs j) (coefRead h long bs (loads plan) k (placeIn sh k p) +ℤ middle (lost k))) (point-place sh k p hp m)
       (coef-near k (placeIn sh k p) hk (place-in sh k p hp m)))
 
 -- THE VALUES are near the samples by the plan's figure
@@ -82,7 +90,11 @@ module _ {sh : Shape} {e : ℕ} {g : List ℤ} (x : Samples sh e g) (curve : Cur
   abbrev head : Header
   head = headerFor sh curve e q
 
-  pub values-near : {long : ℕ} {bs : List ℕ} {plan : Plan} → Carries head long bs q plan → Gives sh g (figureOf head (loads plan)) (readAs head long bs plan)
-  unfolding figureOf valuesWith
+  pub values-near : {long : ℕ} {bs : List ℕ} {plan : Plan} → Carries head long bs q plan → (let ls = lossesFor sh q in Gives sh g (figureOf head ls (loads plan)) (readAs head ls long bs plan))
+  unfolding valuesWith
   values-near {plan = plan} carries =
-      record { taken = refl; near = sheet-samples sh (x .shape) curve e (λ k. loss (missing head (loads plan) k)) g _ (coefs-near (samples-fit x curve) curve carries) }
+      let c = samples-fit x curve in
+      record {
+        taken = refl;
+        near = rw (told-figure c curve (loads plan)) (sheet-samples sh (x .shape) curve e (λ k. measuredLoss sh q k (missing head (loads plan) k)) g _ (coefs-near c curve carries));
+      }

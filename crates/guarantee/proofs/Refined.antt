@@ -1,5 +1,6 @@
 -- Demand 2, its third sentence, by induction on the list: each refinement leaves what reading with some plan that it takes leaves, and reading with that plan answers by the card alone, whatever stood in its slices.
 use mathlib.Core.List.{List, [], _∷_}
+use mathlib.Core.Option.{Option}
 use mathlib.Core.Path.{_≡_, sym, ap, _∙_, subst}
 use Prim.Native.Nat.{ℕ}
 use lib.IntN.{ℤ}
@@ -7,22 +8,22 @@ use lib.ListN.{length, length-replicate}
 use Rattle.sheet.specs.Limits.{layersMost}
 use Rattle.header.specs.declared.Header.{Header}
 use Rattle.header.specs.Plan.{noPlan}
-use Rattle.header.specs.Opening.{opening}
-use Rattle.header.proofs.HeaderLines.{accepting}
+use Rattle.header.specs.Losses.{told}
+use Rattle.header.specs.Opening.{opening, opened}
 use Rattle.card.specs.Reading.{Reading, reading}
 use Rattle.card.specs.Refining.{refining}
 use Rattle.guarantee.specs.Refinements.{Refinements, refineOnce, refineAll}
 use Rattle.guarantee.proofs.Step.{Reached, step}
 use Rattle.guarantee.proofs.Taken.{right-header, passed-reads, reading-passed}
 
-module _ (bs : List ℕ) {h : Header} {long : ℕ} (opens : opening bs ≡ accepting h long) where
-  one-kept : {r : Reading} → Reached h long bs r → (k : ℕ) → Reached h long bs (refineOnce bs r k)
+module _ (bs : List ℕ) {h : Header} {losses : Option (List ℕ)} {long : ℕ} (opens : opening bs ≡ opened h losses long) where
+  one-kept : {r : Reading} → Reached h (told losses) long bs r → (k : ℕ) → Reached h (told losses) long bs (refineOnce bs r k)
   unfolding refining
   one-kept s k =
-      subst (λ (r : Reading). Reached h long bs (refineOnce bs r k)) (sym (s .same))
-      (rw opens (step h long bs (right-header bs opens) (s .places) (s .taken) k))
+      subst (λ (r : Reading). Reached h (told losses) long bs (refineOnce bs r k)) (sym (s .same))
+      (rw opens (step h (told losses) long bs (right-header bs opens) (s .places) (s .taken) k))
 
-  all-kept : (ks : List ℕ) {r : Reading} → Reached h long bs r → Reached h long bs (refineAll bs ks r)
+  all-kept : (ks : List ℕ) {r : Reading} → Reached h (told losses) long bs r → Reached h (told losses) long bs (refineAll bs ks r)
   unfolding refineAll
   all-kept [] s = s
   all-kept (k ∷ ks) s = all-kept ks (one-kept s k)

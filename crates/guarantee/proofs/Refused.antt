@@ -65,19 +65,19 @@ module _ (qs vs : List ℤ) where
   unless-kept : (d : Details) {go : Reading} → KeptByReading qs vs go → KeptByReading qs vs (unless qs vs d go)
   unless-kept d kept = choice (KeptByReading qs vs) (eqb (d .number) 0) (λ _. kept) (λ _. not-read d)
 
-  opened-kept : (bs : List ℕ) (h : Header) (long : ℕ) (plan : Plan) → KeptByReading qs vs (readOpened qs vs bs h long plan)
+  opened-kept : (bs : List ℕ) (h : Header) (ls : List ℕ) (long : ℕ) (plan : Plan) → KeptByReading qs vs (readOpened qs vs bs h ls long plan)
   unfolding readOpened
-  opened-kept bs h long plan =
+  opened-kept bs h ls long plan =
       unless-kept (firstRefusal qs vs h (wholeOf bs h long) plan)
       (choice (KeptByReading qs vs) (ltb (firstBad h long bs (loads plan)) (slots h)) (λ _. not-read _) (λ _. accepted refl))
 
   reading-kept : (bs : List ℕ) (plan : Plan) → KeptByReading qs vs (reading qs vs bs plan)
   unfolding reading
-  reading-kept bs plan = unless-kept (opening bs .refused) (opened-kept bs _ _ plan)
+  reading-kept bs plan = unless-kept (opening bs .refused) (opened-kept bs _ _ _ plan)
 
   showing-kept : (bs : List ℕ) → KeptByReading qs vs (showing qs vs bs)
   unfolding showing
-  showing-kept bs = unless-kept (opening bs .refused) (opened-kept bs _ _ (wholeOf bs _ _))
+  showing-kept bs = unless-kept (opening bs .refused) (opened-kept bs _ _ _ (wholeOf bs _ _))
 
   refining-kept : (bs : List ℕ) (plan : Plan) (k : ℕ) → KeptByReading qs vs (refining qs vs bs plan k)
   unfolding refining refineOpened

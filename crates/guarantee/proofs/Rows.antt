@@ -13,7 +13,7 @@ use Rattle.layers.proofs.Worked.{cubic-down, carried-twice, carried-narrow}
 use Rattle.header.specs.Header.{planeCells, cellsOf, asciiFrom}
 use Rattle.header.specs.Plan.{firstOver, withPlane}
 use Rattle.order.specs.CardOrder.{cellsBefore, isWhole, whole}
-use Rattle.figure.specs.Figure.{figureOf}
+use Rattle.figure.specs.Figure.{lossFrom, figureOf}
 use Rattle.figure.specs.Bounding.{bounding}
 use Rattle.packing.specs.Planes.{allBelow, allHeld}
 use Rattle.card.specs.Reading.{valuesWith}
@@ -23,7 +23,7 @@ use Rattle.text.specs.Text.{rightAligned}
 use Rattle.compare.specs.Comparing.{agree, apartAt, marks}
 use Rattle.roll.specs.Page.{figureLine, valueLine, valueLines, pageText}
 use Rattle.planner.specs.Planning.{withUpTo, eachUpTo, listsUpTo, plansOf, winsTie, better, bestOf, bestByLimit, bestByCells}
-use Rattle.guarantee.specs.Bench.{card, fineCard, Bench}
+use Rattle.guarantee.specs.Bench.{card, toldCard, fineCard, Bench}
 use Rattle.guarantee.proofs.RowsOpened.{openings}
 use Rattle.guarantee.proofs.RowsCalls as C
 
@@ -36,10 +36,18 @@ unfolding
     pageText figureLine valueLines valueLine rightAligned signed decimal digitsIn
     valuesWith counted low high middle loss
     withPlane coefsPlus weight allHeld holds
-    bounding figureOf standing carried narrow cellsOf total planeCells ceilDiv layerSize count inLayer directions spacing asciiFrom
+    bounding figureOf lossFrom standing carried narrow cellsOf total planeCells ceilDiv layerSize count inLayer directions spacing asciiFrom
 bench =
     record {
       written = C.written;
+      told-header = refl;
+      told-long = refl;
+      at177 = λ qs vs five. C.told-shown qs vs five (take 177 toldCard) (openings .at177);
+      at176 = λ qs vs five. C.told-shown qs vs five (take 176 toldCard) (openings .at176);
+      at81 = λ qs vs five. C.told-shown qs vs five (take 81 toldCard) (openings .at81);
+      at80 = C.told-cut;
+      limit4 = C.by-limit toldCard (openings .told) 4;
+      cells1 = C.by-cells toldCard (openings .told) 1;
       header = refl;
       long = refl;
       at160 = λ qs vs five. C.shown qs vs five (take 160 card) (openings .at160);
@@ -53,12 +61,12 @@ bench =
       at159 = λ qs vs five. C.shown qs vs five (take 159 card) (openings .at159);
       at64 = λ qs vs five. C.shown qs vs five (take 64 card) (openings .at64);
       at63 = C.cut;
-      limit10 = C.by-limit 10;
-      limit9 = C.by-limit 9;
+      limit10 = C.by-limit card (openings .whole) 10;
+      limit9 = C.by-limit card (openings .whole) 9;
       ties = rw (openings .whole) (refl, refl);
-      limit1 = C.by-limit 1;
-      limit0 = C.by-limit 0;
-      cells5 = C.by-cells 5;
+      limit1 = C.by-limit card (openings .whole) 1;
+      limit0 = C.by-limit card (openings .whole) 0;
+      cells5 = C.by-cells card (openings .whole) 5;
       narrowNone = rw (openings .narrow) refl;
       narrowOne = rw (openings .narrow) refl;
       minusOne = record { count = E.minus-one .count; digits = E.minus-one .digits; worth = E.minus-one .makes };

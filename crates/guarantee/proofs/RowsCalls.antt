@@ -1,6 +1,7 @@
 -- What the calls come to on the bench card once their tests pass: those of lengths by the lengths that are given, those of the header by how the card opens.
 use mathlib.Core.Bool.{cond}
-use mathlib.Core.List.{List}
+use mathlib.Core.List.{List, []}
+use mathlib.Core.Option.{Option, none}
 use mathlib.Core.Path.{_≡_, refl, sym, _∙_}
 use Prim.Native.Nat.{ℕ, _≤_}
 use native.Mathlib.Omega.{arith}
@@ -9,10 +10,10 @@ use lib.Dec.{ltb}
 use lib.IntN.{ℤ}
 use lib.ListN.{length, take}
 use Rattle.integers.specs.Floor.{floorDiv, ceilDiv}
-use Rattle.digits.specs.Digits.{low, high, lowest, higher, digitAt, holds, firstFrom}
+use Rattle.digits.specs.Digits.{value, lowest, higher, digitAt, digitsOf, low, high, holds, firstFrom, middle, away}
 use Rattle.sheet.specs.declared.Curve.the-variants.{Linear, Cubic}
 use Rattle.sheet.specs.Limits.{layersMost}
-use Rattle.sheet.specs.Lists.{tabulate, count, nth, total}
+use Rattle.sheet.specs.Lists.{tabulate, count, nth, total, largest}
 use Rattle.sheet.specs.Sheet.{points, spacing, inLayer, layerSize, pointOf, directions}
 use Rattle.layers.specs.Prediction.{linear, line, predictedAt, width, coefficientOf, rebuiltFrom}
 use Rattle.layers.specs.Layering.{layering, pointBy, layerBy, valuesBy, alongside, coefs}
@@ -23,14 +24,14 @@ use Rattle.text.specs.Line.{lineText}
 use Rattle.text.specs.Joined.{joined}
 use Rattle.header.specs.declared.Header.{Header}
 use Rattle.header.specs.Refusals.{refusal}
-use Rattle.header.specs.Header.{planeCells, cellsOf, asciiFrom, headerText}
+use Rattle.header.specs.Header.{planeCells, cellsOf, asciiFrom, firstLines, lossText, headerText}
+use Rattle.header.specs.Losses.{laid, told}
 use Rattle.header.specs.Plan.{loads, firstOver}
-use Rattle.header.specs.Opening.{opening}
-use Rattle.header.proofs.HeaderLines.{accepting}
+use Rattle.header.specs.Opening.{opening, opened}
 use Rattle.header.proofs.Over.{none-over}
 use Rattle.header.proofs.Worked.{benchHeader}
 use Rattle.order.specs.CardOrder.{cellsBefore, isWhole, whole, atPlace, downFrom, wholeOf}
-use Rattle.packing.specs.Planes.{allBelow, packed, planeBit, planeBytes, body, enough, planesFor, countsFor, cardOf}
+use Rattle.packing.specs.Planes.{allBelow, packed, planeBit, planeBytes, body, enough, planesFor, countsFor, measuredLoss, lossesFor, cardOf}
 use Rattle.card.specs.Writing.{outputLeast, badSizes, done, writing}
 use Rattle.loading.specs.InBytes.{firstBad}
 use Rattle.card.specs.Reading.{Reading, readWhole, readOpened, showing}
@@ -43,14 +44,14 @@ use Rattle.roll.specs.Page.{pageText}
 use Rattle.roll.specs.Rolling.{printed, rolled, rolling}
 use Rattle.planner.specs.Planning.{bestByLimit, bestByCells, found, byLimit, byCells}
 use Rattle.planner.specs.Planning as N
-use Rattle.guarantee.specs.Bench.{shape, samples, coefficients, card, threeLayers, coarseCoefficients, coarseValues, looked, fineSamples, fineCoefficients, fineCard, Five}
-use Rattle.guarantee.proofs.RowsOpened.{opened, fineHeader, openings}
+use Rattle.guarantee.specs.Bench.{shape, samples, coefficients, card, toldCard, threeLayers, coarseCoefficients, coarseValues, looked, fineSamples, fineCoefficients, fineCard, Five}
+use Rattle.guarantee.proofs.RowsOpened.{benchOpened, toldLosses, toldOpened, fineLosses, fineHeader, openings}
 
 -- ---- writing
 -- the counts 5,1,0 and the six planes
-card-is : cardOf shape Linear 1 coefficients ≡ card
+card-is : cardOf shape Linear 1 coefficients ≡ toldCard
 unfolding
-    cardOf headerText lineText decimal digitsIn joined asciiFrom countsFor planesFor enough allBelow firstFrom holds low high
+    cardOf headerText firstLines lossText lossesFor laid measuredLoss largest away middle value digitsOf lineText decimal digitsIn joined asciiFrom countsFor planesFor enough allBelow firstFrom holds low high
     body downFrom atPlace planeBytes planeBit packed digitAt lowest higher floorDiv pointOf nth
     tabulate planeCells ceilDiv layerSize count inLayer directions spacing cellsOf total
 card-is = refl
@@ -62,13 +63,13 @@ fine-coefs = refl
 
 fine-is : cardOf shape Cubic 0 fineCoefficients ≡ fineCard
 unfolding
-    cardOf headerText lineText decimal digitsIn joined asciiFrom countsFor planesFor enough allBelow firstFrom holds low high
+    cardOf headerText firstLines lossText lossesFor laid measuredLoss largest away middle value digitsOf lineText decimal digitsIn joined asciiFrom countsFor planesFor enough allBelow firstFrom holds low high
     body downFrom atPlace planeBytes planeBit packed digitAt lowest higher floorDiv pointOf nth
     tabulate planeCells ceilDiv layerSize count inLayer directions spacing cellsOf total
 fine-is = refl
 
 pub written : (qs vs : List ℤ) (out : List ℕ) → Five qs vs → outputLeast ≤ length out
-    → writing samples shape Linear 1 qs vs out ≡ done samples shape Linear 1 qs vs out card
+    → writing samples shape Linear 1 qs vs out ≡ done samples shape Linear 1 qs vs out toldCard
 unfolding writing badSizes full scanned goodPrefix inRange
 written qs vs out five room =
     rw (
@@ -91,30 +92,34 @@ fine-written qs vs out five room =
       fine-is,
     )
 
--- ---- showing a card of five points, whose header has 64 bytes
-module _ (h : Header) (size : points (h .shape) ≡ 5) (qs vs : List ℤ) where
+-- ---- showing a card of five points
+module _ (h : Header) (losses : Option (List ℕ)) (long : ℕ) (size : points (h .shape) ≡ 5) (qs vs : List ℤ) where
   -- reading with all whole planes
   abbrev pub readAll : List ℕ → Reading
   readAll bs =
-      let plan = wholeOf bs h 64 in
-      readWhole qs vs h 64 bs plan (firstBad h 64 bs (loads plan))
+      let plan = wholeOf bs h long in
+      readWhole qs vs h (told losses) long bs plan (firstBad h long bs (loads plan))
 
-  pub shows-all : Five qs vs → (bs : List ℕ) → opening bs ≡ accepting h 64 → showing qs vs bs ≡ readAll bs
+  pub shows-all : Five qs vs → (bs : List ℕ) → opening bs ≡ opened h losses long → showing qs vs bs ≡ readAll bs
   unfolding showing readOpened
   shows-all five bs o =
-      let plan = wholeOf bs h 64 in
+      let plan = wholeOf bs h long in
       rw (o, checked-none qs vs h plan plan (lengths-good qs vs h (five .coefficients ∙ sym size) (five .values ∙ sym size)) (none-over (loads plan) (loads plan) (λ k l. omega arith)))
 
 -- the bench card
 module _ (qs vs : List ℤ) where
   abbrev pub wholeRead : List ℕ → Reading
-  wholeRead = readAll benchHeader refl qs vs
+  wholeRead = readAll benchHeader none 64 refl qs vs
 
-  pub shown : Five qs vs → (bs : List ℕ) → opening bs ≡ opened → showing qs vs bs ≡ wholeRead bs
-  shown = shows-all benchHeader refl qs vs
+  pub shown : Five qs vs → (bs : List ℕ) → opening bs ≡ benchOpened → showing qs vs bs ≡ wholeRead bs
+  shown = shows-all benchHeader none 64 refl qs vs
+
+  -- and what the writer gives for its samples
+  pub told-shown : Five qs vs → (bs : List ℕ) → opening bs ≡ toldOpened → showing qs vs bs ≡ readAll benchHeader toldLosses 81 refl qs vs bs
+  told-shown = shows-all benchHeader toldLosses 81 refl qs vs
 
   -- and rolled, on a page that has room for its six lines
-  pub rolls : Five qs vs → (bs : List ℕ) → opening bs ≡ opened → wholeRead bs .refused .number ≡ 0 → (page : List ℕ) → 150 ≤ length page
+  pub rolls : Five qs vs → (bs : List ℕ) → opening bs ≡ benchOpened → wholeRead bs .refused .number ≡ 0 → (page : List ℕ) → 150 ≤ length page
       → rolling qs vs page bs ≡ record { shown = showing qs vs bs; page = printed page (pageText shape (wholeRead bs .figure) (wholeRead bs .values)) }
   unfolding rolling rolled
   rolls five bs o fine page room = rw (shown five bs o, fine, o, le-ltb (length page) 150 room)
@@ -123,9 +128,13 @@ module _ (qs vs : List ℤ) where
   unfolding showing
   cut = rw (openings .at63)
 
+  pub told-cut : showing qs vs (take 80 toldCard) ≡ R.notRead qs vs (refusal 5 0 0)
+  unfolding showing
+  told-cut = rw (openings .at80)
+
 -- ---- previewing, from three planes of the bench card's anchors
 abbrev refinedCopy : ℕ → Reading
-refinedCopy = refineLayer coarseCoefficients coarseValues card benchHeader 64 (threeLayers 3 0 0)
+refinedCopy = refineLayer coarseCoefficients coarseValues card benchHeader [] 64 (threeLayers 3 0 0)
 
 three-whole : firstOver (loads (wholeOf card benchHeader 64)) (loads (threeLayers 3 0 0)) ≡ layersMost
 unfolding firstOver firstFrom whole isWhole cellsBefore planeCells ceilDiv layerSize count inLayer directions spacing total asciiFrom tabulate
@@ -147,16 +156,16 @@ module _ (one two : Lent) (bytes : List ℕ) where
   coarse bs = wholeRead (one .coefficients) (one .values) bs
 
   abbrev fine : List ℕ → Reading
-  fine bs = readAll fineHeader refl (two .coefficients) (two .values) bs
+  fine bs = readAll fineHeader fineLosses 93 refl (two .coefficients) (two .values) bs
 
   pub compares : Five (one .coefficients) (one .values) → Five (two .coefficients) (two .values) → length bytes ≡ 5 → (bs bs′ : List ℕ)
-      → opening bs ≡ opened → opening bs′ ≡ accepting fineHeader 64 → coarse bs .refused .number ≡ 0 → fine bs′ .refused .number ≡ 0
+      → opening bs ≡ benchOpened → opening bs′ ≡ opened fineHeader fineLosses 93 → coarse bs .refused .number ≡ 0 → fine bs′ .refused .number ≡ 0
       → comparing one two bytes bs bs′ ≡ compared one two bytes shape (coarse bs) (fine bs′)
   unfolding comparing sizeRefusal sameSize
   compares five five′ long bs bs′ o o′ zero zero′ =
       rw (
         shown (one .coefficients) (one .values) five bs o,
-        shows-all fineHeader refl (two .coefficients) (two .values) five′ bs′ o′,
+        shows-all fineHeader fineLosses 93 refl (two .coefficients) (two .values) five′ bs′ o′,
         zero,
         zero′,
         o,
@@ -164,11 +173,12 @@ module _ (one two : Lent) (bytes : List ℕ) where
         eq-eqb (length bytes) 5 long,
       )
 
--- ---- planning
-pub by-limit : (limit : ℕ) → byLimit card limit ≡ cond (ltb limit 1) (N.notPlanned (refusal 10 0 0)) (found benchHeader (bestByLimit benchHeader limit))
-unfolding byLimit
-by-limit limit = rw (openings .whole)
+-- ---- planning, by how a card opens
+module _ (bs : List ℕ) {losses : Option (List ℕ)} {long : ℕ} (o : opening bs ≡ opened benchHeader losses long) where
+  pub by-limit : (limit : ℕ) → byLimit bs limit ≡ cond (ltb limit 1) (N.notPlanned (refusal 10 0 0)) (found benchHeader (told losses) (bestByLimit benchHeader (told losses) limit))
+  unfolding byLimit
+  by-limit limit = rw o
 
-pub by-cells : (most : ℕ) → byCells card most ≡ found benchHeader (bestByCells benchHeader most)
-unfolding byCells
-by-cells most = rw (openings .whole)
+  pub by-cells : (most : ℕ) → byCells bs most ≡ found benchHeader (told losses) (bestByCells benchHeader (told losses) most)
+  unfolding byCells
+  by-cells most = rw o

@@ -31,13 +31,13 @@ use Rattle.guarantee.specs.Refinements.{keep}
 use Rattle.guarantee.proofs.OneMore.{more-places, more-taken, coefs-more}
 use Rattle.guarantee.proofs.Taken.{Taken}
 
-module _ (h : Header) (long : ℕ) (bs : List ℕ) where
+module _ (h : Header) (ls : List ℕ) (long : ℕ) (bs : List ℕ) where
   -- what reading with some plan of 13 places that it takes leaves
   pub record Reached (r : Reading) : Type 0 where
     pub plan : Plan
     pub places : length (plan .planes) ≡ layersMost
     pub taken : Taken h long bs plan
-    pub same : r ≡ readAs h long bs plan
+    pub same : r ≡ readAs h ls long bs plan
 
   module _ (right : WellFormed h) {plan : Plan} (places : length (plan .planes) ≡ layersMost) (t : Taken h long bs plan) (k : ℕ) where
     abbrev coefficients : List ℤ
@@ -50,14 +50,14 @@ module _ (h : Header) (long : ℕ) (bs : List ℕ) where
     values = valuesWith h plan coefficients
 
     abbrev Kept : Reading → Type 0
-    Kept new = Reached (keep new (readAs h long bs plan))
+    Kept new = Reached (keep new (readAs h ls long bs plan))
 
     -- a refused one leaves what was there
     refused : (d : Details) → (d .number ≡ 0 → ⊥) → Kept (R.notRead coefficients values d)
     refused d n = rw (ne-eqb (d .number) 0 n) (record { plan = plan; places = places; taken = t; same = refl })
 
     -- one that is taken adds the digits that reading with one plane more reads
-    refined : k < layers (h .shape) → loads plan k < whole h (length bs - long) k → fine h long bs k next ≡ true → Kept (refinedAs h long bs plan k next coefficients)
+    refined : k < layers (h .shape) → loads plan k < whole h (length bs - long) k → fine h long bs k next ≡ true → Kept (refinedAs h ls long bs plan k next coefficients)
     refined hk room ok =
         record {
           plan = withPlane plan k;
@@ -67,7 +67,7 @@ module _ (h : Header) (long : ℕ) (bs : List ℕ) where
         }
 
     -- test by test
-    pub step : Kept (refineOpened coefficients values bs h long plan k)
+    pub step : Kept (refineOpened coefficients values bs h ls long plan k)
     unfolding refineOpened
     step =
         let limit = loads (wholePlan h (length bs - long)) in

@@ -1,6 +1,7 @@
 -- A reading that is not refused. It tests that the bytes open, that the slices are as long as the sheet, that the plan asks for whole planes alone and that none of these is bad; so where all is well it answers by the card and the plan alone, whatever the slices held, and where it is not refused all is well.
 use mathlib.Core.Bool.{true, false, not, _&&_}
 use mathlib.Core.List.{List}
+use mathlib.Core.Option.{Option}
 use mathlib.Core.Path.{_≡_, ap, ap₂, _∙_, subst}
 use Prim.Native.Nat.{ℕ, _+_, _-_, _<_, _≤_}
 use native.Mathlib.Nat.{mod-lt}
@@ -17,10 +18,11 @@ use Rattle.header.specs.declared.Header.{Header}
 use Rattle.header.specs.declared.Plan.{Plan}
 use Rattle.header.specs.Header.{planesOf}
 use Rattle.header.specs.Plan.{loads, firstOver}
-use Rattle.header.specs.Opening.{Opening, opening}
+use Rattle.header.specs.Losses.{told}
+use Rattle.header.specs.Opening.{Opening, opening, opened}
 use Rattle.order.specs.CardOrder.{slotLayer, slotPlace, slots, whole, wholePlan, wholeOf}
 use Rattle.order.specs.Workings.{slotNo}
-use Rattle.header.proofs.HeaderLines.{accepting, lines-of, opening-of}
+use Rattle.header.proofs.HeaderLines.{lines-of, opening-of}
 use Rattle.header.proofs.Opens.{Opens, opened-right}
 use Rattle.header.proofs.Over.{none-over}
 use Rattle.header.proofs.WellFormed.{WellFormed, right-yes, few-planes}
@@ -33,9 +35,9 @@ use Rattle.loading.proofs.LayerPlanes.{whole-at, loaded-yes, loaded-by}
 use Rattle.guarantee.specs.Guarantee.{Slices}
 
 -- ---- what opening gives
-module _ (bs : List ℕ) {h : Header} {long : ℕ} (e : opening bs ≡ accepting h long) where
-  pub opens-right : Opens bs h long
-  opens-right = subst (λ (o : Opening). Opens bs (o .header) (o .long)) e (opened-right bs (ap (λ (o : Opening). o .refused .number) e))
+module _ (bs : List ℕ) {h : Header} {losses : Option (List ℕ)} {long : ℕ} (e : opening bs ≡ opened h losses long) where
+  pub opens-right : Opens bs h losses long
+  opens-right = subst (λ (o : Opening). Opens bs (o .header) (o .losses) (o .long)) e (opened-right bs (ap (λ (o : Opening). o .refused .number) e))
 
   pub right-header : WellFormed h
   right-header = right-yes h (opens-right .right-is)
@@ -96,15 +98,15 @@ module _ (h : Header) (long : ℕ) (bs : List ℕ) where
         not-false (fine h long bs k p) (rw (loaded-by h (loads plan) k p named asked) at good)
 
 -- ---- ALL IS WELL
-pub record Passed (h : Header) (long : ℕ) (bs : List ℕ) (plan : Plan) (qs vs : List ℤ) : Type 0 where
-  pub opens : opening bs ≡ accepting h long
+pub record Passed (h : Header) (losses : Option (List ℕ)) (long : ℕ) (bs : List ℕ) (plan : Plan) (qs vs : List ℤ) : Type 0 where
+  pub opens : opening bs ≡ opened h losses long
   pub slices : Slices (h .shape) qs vs
   pub taken : Taken h long bs plan
 
 -- so it is not refused
-pub passed-reads : {h : Header} {long : ℕ} {bs : List ℕ} {plan : Plan} {qs vs : List ℤ} → Passed h long bs plan qs vs → reading qs vs bs plan ≡ readAs h long bs plan
+pub passed-reads : {h : Header} {losses : Option (List ℕ)} {long : ℕ} {bs : List ℕ} {plan : Plan} {qs vs : List ℤ} → Passed h losses long bs plan qs vs → reading qs vs bs plan ≡ readAs h (told losses) long bs plan
 unfolding reading readOpened
-passed-reads {h} {long} {bs} {plan} {qs} {vs} t =
+passed-reads {h} {losses} {long} {bs} {plan} {qs} {vs} t =
     rw (
       t .opens,
       checked-none qs vs h (wholeOf bs h long) plan (lengths-good qs vs h (t .slices .coefficients) (t .slices .values)) (asks-passes h long bs plan (t .taken .asks)),
@@ -113,9 +115,9 @@ passed-reads {h} {long} {bs} {plan} {qs} {vs} t =
 
 -- and only so
 module _ (qs vs : List ℤ) (bs : List ℕ) (plan : Plan) where
-  opened-passed : (h : Header) (long : ℕ) → opening bs ≡ accepting h long → readOpened qs vs bs h long plan .refused .number ≡ 0 → Passed h long bs plan qs vs
+  opened-passed : (h : Header) (losses : Option (List ℕ)) (long : ℕ) → opening bs ≡ opened h losses long → readOpened qs vs bs h (told losses) long plan .refused .number ≡ 0 → Passed h losses long bs plan qs vs
   unfolding readOpened
-  opened-passed h long opens zero =
+  opened-passed h losses long opens zero =
       by (eqb (firstRefusal qs vs h (wholeOf bs h long) plan .number) 0)
       (λ y. by (ltb (bad h long bs plan) (all h long bs plan))
       (λ b. absurd (let z : 8 ≡ 0 = rw (y, b) at zero in omega arith))
@@ -129,9 +131,9 @@ module _ (qs vs : List ℤ) (bs : List ℕ) (plan : Plan) where
       }))
       (λ n. absurd (eqb-false _ _ n (rw n at zero)))
 
-  pub reading-passed : reading qs vs bs plan .refused .number ≡ 0 → Passed (opening bs .header) (opening bs .long) bs plan qs vs
+  pub reading-passed : reading qs vs bs plan .refused .number ≡ 0 → Passed (opening bs .header) (opening bs .losses) (opening bs .long) bs plan qs vs
   unfolding reading
   reading-passed zero =
       by (eqb (opening bs .refused .number) 0)
-      (λ y. opened-passed _ _ (opening-of bs _ _ (lines-of bs (eqb-true _ 0 y))) (rw y at zero))
+      (λ y. opened-passed _ _ _ (opening-of bs _ _ _ (lines-of bs (eqb-true _ 0 y))) (rw y at zero))
       (λ n. absurd (eqb-false _ 0 n (rw n at zero)))

@@ -15,6 +15,7 @@ use Rattle.layers.specs.Carry.{carry}
 use Rattle.header.specs.declared.Plan.{Plan}
 use Rattle.header.specs.Refusals.{refusal}
 use Rattle.header.specs.Header.{cellBytes, ascii}
+use Rattle.header.specs.Losses.{told}
 use Rattle.header.specs.Opening.{opening}
 use Rattle.card.specs.Writing.{writing, outputLeast}
 use Rattle.card.specs.Reading.{showing}
@@ -40,15 +41,26 @@ coefficients = pos 3 ∷ pos 1 ∷ pos 4 ∷ pos 0 ∷ pos 10 ∷ []
 abbrev pub values : List ℤ
 values = pos 9 ∷ pos 13 ∷ pos 12 ∷ pos 21 ∷ pos 30 ∷ []
 
--- the header, and the first bytes of its planes, a cell each
-abbrev pub text : List ℕ
-text = ascii "rows=1\ncols=5\nlevels=1\ncurve=linear\nstep=1\nplanes=5,1,0\ncells=6\n"
-
+-- the first bytes of its planes, a cell each
 abbrev pub cell : ℕ → List ℕ
 cell b = b ∷ replicate (cellBytes - 1) 0
 
+abbrev pub planes : List ℕ
+planes = cell 4 ++ (cell 4 ++ (cell 7 ++ (cell 5 ++ (cell 1 ++ cell 1))))
+
+-- the bench card is an old one: its header has no line of losses
+abbrev pub text : List ℕ
+text = ascii "rows=1\ncols=5\nlevels=1\ncurve=linear\nstep=1\nplanes=5,1,0\ncells=6\n"
+
 abbrev pub card : List ℕ
-card = text ++ (cell 4 ++ (cell 4 ++ (cell 7 ++ (cell 5 ++ (cell 1 ++ cell 1)))))
+card = text ++ planes
+
+-- what the writer gives for its samples: the same planes behind a header that tells the losses
+abbrev pub toldText : List ℕ
+toldText = ascii "rows=1\ncols=5\nlevels=1\ncurve=linear\nstep=1\nplanes=5,1,0\nloss=1,1,3,7,5,1\ncells=6\n"
+
+abbrev pub toldCard : List ℕ
+toldCard = toldText ++ planes
 
 -- the plan that loads a, b and c planes of the three layers
 abbrev pub threeLayers : ℕ → ℕ → ℕ → Plan
@@ -61,7 +73,14 @@ coarseCoefficients = pos 4 ∷ pos 0 ∷ pos 4 ∷ pos 0 ∷ pos 12 ∷ []
 abbrev pub coarseValues : List ℤ
 coarseValues = pos 9 ∷ pos 9 ∷ pos 9 ∷ pos 21 ∷ pos 33 ∷ []
 
--- a preview from there of one plane more, in a third slice that held ns
+-- and what two give: the middle of three missing digits is 1
+abbrev pub twoCoefficients : List ℤ
+twoCoefficients = pos 0 ∷ pos 0 ∷ pos 0 ∷ pos 0 ∷ pos 8 ∷ []
+
+abbrev pub twoValues : List ℤ
+twoValues = pos 3 ∷ pos 3 ∷ pos 3 ∷ pos 15 ∷ pos 27 ∷ []
+
+-- a preview from three planes of one plane more, in a third slice that held ns
 abbrev pub looked : List ℤ → ℕ → Previewing
 looked ns k = previewing coarseCoefficients coarseValues ns card (threeLayers 3 0 0) k
 
@@ -77,7 +96,7 @@ abbrev pub fineCoefficients : List ℤ
 fineCoefficients = pos 10 ∷ pos 3 ∷ pos 11 ∷ negsuc 3 ∷ pos 38 ∷ []
 
 abbrev pub fineText : List ℕ
-fineText = ascii "rows=1\ncols=5\nlevels=1\ncurve=cubic\nstep=0\nplanes=7,4,0\ncells=11\n"
+fineText = ascii "rows=1\ncols=5\nlevels=1\ncurve=cubic\nstep=0\nplanes=7,4,0\nloss=1,1,3,7,6,22,17,1,1,3,6\ncells=11\n"
 
 abbrev pub fineCard : List ℕ
 fineCard =
@@ -112,10 +131,28 @@ pub record Spelt (q : ℤ) (ds : List ℕ) : Type 0 where
   pub worth : value ds ≡ q
 
 pub record Bench : Type 0 where
-  -- written: the header has 64 bytes and the card 256
+  -- written: the header has 81 bytes and the card 273
   pub written : (qs vs : List ℤ) (out : List ℕ) → Five qs vs → outputLeast ≤ length out
       → writing samples shape Linear 1 qs vs out
-      ≡ record { refused = refusal 0 0 0; long = 256; coefficients = coefficients; values = values; output = card ++ drop 256 out }
+      ≡ record { refused = refusal 0 0 0; long = 273; coefficients = coefficients; values = values; output = toldCard ++ drop 273 out }
+  pub told-header : length toldText ≡ 81
+  pub told-long : length toldCard ≡ 273
+  -- it is shown as the bench card is, with smaller figures: at byte 177 behind three planes of the anchors, at byte 176 behind two, at byte 81 behind none; at
+  -- byte 80 the header is cut
+  pub at177 : (qs vs : List ℤ) → Five qs vs
+      → showing qs vs (take 177 toldCard)
+      ≡ record { refused = refusal 0 0 0; plan = threeLayers 3 0 0; figure = 7; coefficients = coarseCoefficients; values = coarseValues }
+  pub at176 : (qs vs : List ℤ) → Five qs vs
+      → showing qs vs (take 176 toldCard)
+      ≡ record { refused = refusal 0 0 0; plan = threeLayers 2 0 0; figure = 13; coefficients = twoCoefficients; values = twoValues }
+  pub at81 : (qs vs : List ℤ) → Five qs vs
+      → showing qs vs (take 81 toldCard)
+      ≡ record { refused = refusal 0 0 0; plan = threeLayers 0 0 0; figure = 19; coefficients = replicate 5 (pos 0); values = replicate 5 (pos 15) }
+  pub at80 : (qs vs : List ℤ) → showing qs vs (take 80 toldCard) ≡ R.notRead qs vs (refusal 5 0 0)
+  -- five missing digits of the anchors were measured to lose 5, four of them 7: so one cell is better spent on layer 1
+  pub limit4 : byLimit toldCard 4 ≡ answer (threeLayers 3 1 0) 4 4
+  pub cells1 : byCells toldCard 1 ≡ answer (threeLayers 0 1 0) 1 16
+  -- the bench card: its header has 64 bytes, and it has 256
   pub header : length text ≡ 64
   pub long : length card ≡ 256
   -- pulled at byte 160
@@ -132,7 +169,7 @@ pub record Bench : Type 0 where
   -- the finer card; compared with the bench card, it is apart in the last point
   pub fineWritten : (qs vs : List ℤ) (out : List ℕ) → Five qs vs → outputLeast ≤ length out
       → writing fineSamples shape Cubic 0 qs vs out
-      ≡ record { refused = refusal 0 0 0; long = 416; coefficients = fineCoefficients; values = fineSamples; output = fineCard ++ drop 416 out }
+      ≡ record { refused = refusal 0 0 0; long = 445; coefficients = fineCoefficients; values = fineSamples; output = fineCard ++ drop 445 out }
   pub apart : (one two : Lent) (bytes : List ℕ) → Five (one .coefficients) (one .values) → Five (two .coefficients) (two .values) → length bytes ≡ 5
       → comparing one two bytes card fineCard
       ≡ record {
@@ -167,8 +204,8 @@ pub record Bench : Type 0 where
         refused = refusal 0 0 0;
         plan = threeLayers 2 0 0;
         figure = 16;
-        coefficients = pos 0 ∷ pos 0 ∷ pos 0 ∷ pos 0 ∷ pos 8 ∷ [];
-        values = pos 3 ∷ pos 3 ∷ pos 3 ∷ pos 15 ∷ pos 27 ∷ [];
+        coefficients = twoCoefficients;
+        values = twoValues;
       }
   -- at byte 64 there are no planes, and the middle of five missing digits is 5
   pub at64 : (qs vs : List ℤ) → Five qs vs
@@ -185,7 +222,7 @@ pub record Bench : Type 0 where
   -- planned by limit and by cells; 3,1,0 has the cells and the figure of 4,0,0
   pub limit10 : byLimit card 10 ≡ answer (threeLayers 3 0 0) 3 10
   pub limit9 : byLimit card 9 ≡ answer (threeLayers 4 0 0) 4 7
-  pub ties : (cellsIn (opening card .header) (threeLayers 3 1 0 .planes) ≡ 4) × (figureIn (opening card .header) (threeLayers 3 1 0 .planes) ≡ 7)
+  pub ties : (cellsIn (opening card .header) (threeLayers 3 1 0 .planes) ≡ 4) × (figureIn (opening card .header) (told (opening card .losses)) (threeLayers 3 1 0 .planes) ≡ 7)
   pub limit1 : byLimit card 1 ≡ answer (threeLayers 5 1 0) 6 1
   pub limit0 : byLimit card 0 ≡ N.notPlanned (refusal 10 0 0)
   pub cells5 : byCells card 5 ≡ answer (threeLayers 5 0 0) 5 4

@@ -6,5 +6,6 @@ pub mod Roll
 pub mod Guarantee
 pub mod Comparison
 pub mod Missing
+pub mod Measured
 pub mod Groups
 pub mod Bench

@@ -11,7 +11,6 @@ use lib.ListN.{length, take, drop, getD, replicate, length-drop, length-take, le
 use lib.Seq.{ext-getD, getD-take, getD-drop}
 use borrow.Author.Tests.{ltb-true, ltb-false}
 use Rattle.sheet.specs.declared.Shape.{Shape}
-use Rattle.sheet.specs.declared.Curve.{Curve}
 use Rattle.sheet.specs.Limits.{layersMost}
 use Rattle.sheet.specs.Lists.{tabulate}
 use Rattle.sheet.specs.Sheet.{layers}
@@ -23,11 +22,10 @@ use Rattle.text.specs.Joined.{numbersIn}
 use Rattle.text.specs.Workings.{isSome, orZeros}
 use Rattle.text.proofs.Search.{has-end, no-end}
 use Rattle.header.specs.Refusals.{refusal}
-use Rattle.header.specs.Header.{placesMost, ascii}
-use Rattle.header.specs.Opening.{notOpened, planesMost, limits, openingPlanes, openingCells}
+use Rattle.header.specs.Header.{placesMost}
+use Rattle.header.specs.Opening.{Opening, notOpened, planesMost, limits, takingNumbers}
 use Rattle.header.proofs.WellFormed.{most-le, most-past}
 use Rattle.header.proofs.Counts.{Counted, counts-read}
-use Rattle.header.proofs.HeaderLines.{headed}
 use Rattle.header.proofs.Opens.{padded-in, padded-past}
 
 -- ---- the limits as the code has them: a front of a list, and the zeros behind it
@@ -52,38 +50,38 @@ module _ (n a : ℕ) (f : ℕ → ℕ) (few : a ≤ n) where
         let rest : length (drop a (tabulate n f)) ≡ n - a = omega (arith, length-drop a (tabulate n f), long) in
         ext-getD 0 (drop a (tabulate n f)) (replicate (n - a) 0) (rest ∙ sym (length-replicate {A = ℕ} (n - a) 0)) (λ i l. rest-at i (omega (arith, rest)))
 
+-- ---- what the code reads: whether there are numbers, and the numbers
+pub none-read : (o : Option (List ℕ)) → false ≡ isSome o → o ≡ none
+none-read none e = refl
+none-read (some ns) e = absurd (false≢true e)
+
+pub some-read : (n : ℕ) (o : Option (List ℕ)) (front : List ℕ) → front ≡ orZeros n o → true ≡ isSome o → o ≡ some front
+some-read n none front e t = absurd (true≢false t)
+some-read n (some ns) front e t = ap some (sym e)
+
 -- ---- the counts that are read in front of them
 pub record Kept (sh : Shape) (text planes : List ℕ) : Type 0 where
-  counts : List ℕ
-  read-is : numbersIn (limits sh) text ≡ some counts
-  planes-are : planes ≡ padded layersMost counts
+  pub counts : List ℕ
+  pub read-is : numbersIn (limits sh) text ≡ some counts
+  pub planes-are : planes ≡ padded layersMost counts
 
 module _ (sh : Shape) (few : layers sh ≤ layersMost) (n : ℕ) (all-are : n ≡ layers sh) (most : List ℕ) (most-are : most ≡ tabulate layersMost (planesMost sh)) (text : List ℕ) where
   same : numbersIn (take n most) text ≡ numbersIn (limits sh) text
   unfolding limits
   same = rw (all-are, most-are, list-front layersMost (layers sh) (planesMost sh) few)
 
-  padded-kept : (front counts : List ℕ) → front ≡ counts → length counts ≡ layers sh → front ++ drop n most ≡ padded layersMost counts
+  padded-kept : (counts : List ℕ) → length counts ≡ layers sh → counts ++ drop n most ≡ padded layersMost counts
   unfolding padded
-  padded-kept front counts e long =
-      rw (e, long, all-are, most-are) (ap (λ (l : List ℕ). counts ++ l) (list-rest layersMost (layers sh) (planesMost sh) few (λ k h. most-past sh k h)))
+  padded-kept counts long =
+      rw (long, all-are, most-are) (ap (λ (l : List ℕ). counts ++ l) (list-rest layersMost (layers sh) (planesMost sh) few (λ k h. most-past sh k h)))
 
   pub not-read : false ≡ isSome (numbersIn (take n most) text) → numbersIn (limits sh) text ≡ none
-  not-read e = each (numbersIn (limits sh) text) (e ∙ ap isSome same) where
-    each : (o : Option (List ℕ)) → false ≡ isSome o → o ≡ none
-    each none e = refl
-    each (some counts) e = absurd (false≢true e)
+  not-read e = sym same ∙ none-read _ e
 
   pub kept : (front : List ℕ) → front ≡ orZeros (length (take n most)) (numbersIn (take n most) text) → true ≡ isSome (numbersIn (take n most) text) → Kept sh text (front ++ drop n most)
-  kept front e t = each (numbersIn (limits sh) text) refl (t ∙ ap isSome same) where
-    each : (o : Option (List ℕ)) → numbersIn (limits sh) text ≡ o → true ≡ isSome o → Kept sh text (front ++ drop n most)
-    each none q t = absurd (true≢false t)
-    each (some counts) q t =
-        record {
-          counts = counts;
-          read-is = q;
-          planes-are = padded-kept front counts (e ∙ ap (orZeros (length (take n most))) (same ∙ q)) (counts-read sh text counts q .long);
-        }
+  kept front e t =
+      let q : numbersIn (limits sh) text ≡ some front = sym same ∙ some-read _ _ front e t in
+      record { counts = front; read-is = q; planes-are = padded-kept front (counts-read sh text front q .long) }
 
 -- how large they are
 pub kept-few : {sh : Shape} {text planes : List ℕ} → layers sh ≤ layersMost → Kept sh text planes → (i : ℕ) → getD planes i 0 ≤ placesMost
@@ -95,11 +93,10 @@ kept-few {sh} {text} few k i =
     (λ t. rw (padded-in counts (omega (arith, c .long)) i (ltb-true i (length counts) t)) (omega (arith, c .most i (omega (arith, c .long, ltb-true i (length counts) t)), most-le sh i)))
     (λ t. omega (arith, padded-past counts i (ltb-false i (length counts) t))))
 
--- ---- the line
-module _ (bs : List ℕ) (sh : Shape) (curve : Curve) (step at e : ℕ) (is : e ≡ at + indexOf newline (drop at bs)) where
-  pub planes-short : length bs ≤ e → openingPlanes bs sh curve step at ≡ notOpened (refusal 5 0 0)
-  unfolding openingPlanes
-  planes-short h = simp (no-end (drop at bs) (omega (arith, length-drop at bs)))
+-- ---- a line of a key and numbers
+module _ (n : ℕ) (key most bs : List ℕ) (at e : ℕ) (is : e ≡ at + indexOf newline (drop at bs)) (go : List ℕ → ℕ → Opening) where
+  pub numbers-short : length bs ≤ e → takingNumbers n key most (drop at bs) go ≡ notOpened (refusal 5 0 0)
+  numbers-short h = simp (no-end (drop at bs) (omega (arith, length-drop at bs)))
 
   module _ (h : e < length bs) where
     front : indexOf newline (drop at bs) ≡ e - at
@@ -108,18 +105,13 @@ module _ (bs : List ℕ) (sh : Shape) (curve : Curve) (step at e : ℕ) (is : e 
     there : hasEnd (drop at bs) ≡ true
     there = has-end (drop at bs) (omega (arith, length-drop at bs))
 
-    pub planes-other : starts (ascii "planes=") (take (e - at) (drop at bs)) ≡ false → openingPlanes bs sh curve step at ≡ notOpened (refusal 6 6 0)
-    unfolding openingPlanes
-    planes-other s = simp (front, there, s)
+    pub numbers-other : starts key (take (e - at) (drop at bs)) ≡ false → takingNumbers n key most (drop at bs) go ≡ notOpened (refusal 6 n 0)
+    numbers-other s = simp (front, there, s)
 
     -- the text behind the key
-    module _ (s : starts (ascii "planes=") (take (e - at) (drop at bs)) ≡ true) (text : List ℕ) (behind : text ≡ drop (length (ascii "planes=")) (take (e - at) (drop at bs))) where
-      pub planes-wrong : numbersIn (limits sh) text ≡ none → openingPlanes bs sh curve step at ≡ notOpened (refusal 6 6 0)
-      unfolding openingPlanes
-      planes-wrong q = simp (front, there, s, ← behind, q)
+    module _ (s : starts key (take (e - at) (drop at bs)) ≡ true) (text : List ℕ) (behind : text ≡ drop (length key) (take (e - at) (drop at bs))) where
+      pub numbers-wrong : numbersIn most text ≡ none → takingNumbers n key most (drop at bs) go ≡ notOpened (refusal 6 n 0)
+      numbers-wrong q = simp (front, there, s, ← behind, q)
 
-      pub planes-right : (planes : List ℕ) → Kept sh text planes → openingPlanes bs sh curve step at ≡ openingCells bs (headed sh curve step planes) (e + 1)
-      unfolding openingPlanes
-      planes-right planes k =
-          let next : at + (e - at + 1) ≡ e + 1 = omega arith in
-          rw (k .planes-are) (simp (front, there, s, ← behind, k .read-is, next))
+      pub numbers-right : (ns : List ℕ) → numbersIn most text ≡ some ns → takingNumbers n key most (drop at bs) go ≡ go ns (e - at + 1)
+      numbers-right ns q = simp (front, there, s, ← behind, q)

@@ -9,9 +9,9 @@ use lib.ListN.{length, take, drop, length-append, length-take, take-append-drop}
 use lib.Seq.{take-suc, take-append-seam, append-snoc, drop-drop, drop-append-seam, take-nil}
 use Rattle.text.specs.declared.Line.the-variants as L
 use Rattle.text.specs.Decimal.{decimal}
-use Rattle.text.specs.Line.{newline, indexOf, hasEnd, lineAt, lineText}
+use Rattle.text.specs.Line.{newline, indexOf, starts, hasEnd, lineAt, lineText}
 use Rattle.text.proofs.Lines.{Written, written}
-use Rattle.text.proofs.Search.{Free, found, has-end, before-seam}
+use Rattle.text.proofs.Search.{Free, found, has-end, before-seam, starts-append, starts-split}
 
 abbrev pub ended : List ℕ → List ℕ
 ended t = t ++ newline ∷ []
@@ -84,3 +84,10 @@ drop-take zero n l = let e : n - 0 ≡ n = omega arith in rw e
 drop-take (suc k) zero l = let e : 0 - suc k ≡ 0 = omega arith in rw e
 drop-take (suc k) (suc n) [] = sym (take-nil (suc n - suc k))
 drop-take (suc k) (suc n) (x ∷ l) = let e : suc n - suc k ≡ n - k = omega arith in rw e (drop-take k n l)
+
+-- a key at the front of what is left stood there before
+pub starts-front : (m : ℕ) (key l : List ℕ) → starts key (take m l) ≡ true → starts key l ≡ true
+starts-front m key l e =
+    let rest = drop (length key) (take m l) in
+    ap (starts key) (sym (take-append-drop m l) ∙ ap (λ (a : List ℕ). a ++ drop m l) (starts-split key (take m l) e) ∙ append-assoc key rest (drop m l))
+    ∙ starts-append key (rest ++ drop m l)

@@ -2,6 +2,7 @@ pub mod Over
 pub mod Totals
 pub mod Cells
 pub mod WellFormed
+pub mod Laid
 pub mod Counts
 pub mod Ends
 pub mod CurveLine
@@ -11,11 +12,13 @@ pub mod Opens
 pub mod OpenedSize
 pub mod Total
 pub mod TextLength
+pub mod HeaderRoom
 pub mod Refusing
 pub mod Printed
 pub mod Cut
 pub mod Worked
 pub mod Taking
 pub mod Counting
+pub mod Telling
 pub mod Fills
 pub mod Bools

@@ -5,23 +5,19 @@ use mathlib.Core.Option.{Option, none, some}
 use mathlib.Core.Path.{_≡_, refl}
 use Prim.Native.Nat.{ℕ, _+_, _<_}
 use lib.ListN.{length, take, drop}
-use Rattle.sheet.specs.declared.Shape.{Shape}
-use Rattle.sheet.specs.Limits.{layersMost}
 use Rattle.text.specs.declared.Line.{Line}
 use Rattle.text.specs.declared.Line.the-variants as L
-use Rattle.text.specs.Text.{padded}
 use Rattle.text.specs.Line.{newline, indexOf, starts, hasEnd}
 use Rattle.text.specs.Joined.{numbersIn}
 use Rattle.text.proofs.Search.{end-inside}
 use Rattle.header.specs.Refusals.{refusal}
-use Rattle.header.specs.Header.{ascii}
-use Rattle.header.specs.Opening.{Opening, notOpened, taking, limits, counted, takingPlanes}
+use Rattle.header.specs.Opening.{Opening, notOpened, taking, listed, takingNumbers}
 
--- line 6 as it is read: its end, its key, and its counts
-pub record PlanesLine (sh : Shape) (l counts : List ℕ) : Type 0 where
+-- a line of a key and numbers as it is read: its end, its key, and its numbers
+pub record NumbersLine (key most l ns : List ℕ) : Type 0 where
   pub inside : indexOf newline l < length l
-  pub key : starts (ascii "planes=") (take (indexOf newline l) l) ≡ true
-  pub counts-are : numbersIn (limits sh) (drop (length (ascii "planes=")) (take (indexOf newline l) l)) ≡ some counts
+  pub key-is : starts key (take (indexOf newline l) l) ≡ true
+  pub numbers-are : numbersIn most (drop (length key) (take (indexOf newline l) l)) ≡ some ns
 
 module _ (P : Opening → Type 0) where
   pub turn : (n : ℕ) (line : Line) (go : ℕ → ℕ → Opening) → P (notOpened (refusal 5 0 0)) → P (notOpened (refusal 6 n 0)) → ((v len : ℕ) → line ≡ L.Number v len → P (go v len)) → P (taking n line go)
@@ -29,15 +25,14 @@ module _ (P : Opening → Type 0) where
   turn n L.Wrong go short wrong rest = wrong
   turn n (L.Number v len) go short wrong rest = rest v len refl
 
-  pub turn-planes : (sh : Shape) (l : List ℕ) (go : List ℕ → ℕ → Opening) → P (notOpened (refusal 5 0 0)) → P (notOpened (refusal 6 6 0))
-      → ((counts : List ℕ) → PlanesLine sh l counts → P (go (padded layersMost counts) (indexOf newline l + 1))) → P (takingPlanes sh l go)
-  turn-planes sh l go short wrong rest =
-      by (hasEnd l) (starts (ascii "planes=") (take (indexOf newline l) l)) (numbersIn (limits sh) (drop (length (ascii "planes=")) (take (indexOf newline l) l))) refl refl refl
+  pub turn-numbers : (n : ℕ) (key most l : List ℕ) (go : List ℕ → ℕ → Opening) → P (notOpened (refusal 5 0 0)) → P (notOpened (refusal 6 n 0))
+      → ((ns : List ℕ) → NumbersLine key most l ns → P (go ns (indexOf newline l + 1))) → P (takingNumbers n key most l go)
+  turn-numbers n key most l go short wrong rest =
+      by (hasEnd l) (starts key (take (indexOf newline l) l)) (numbersIn most (drop (length key) (take (indexOf newline l) l))) refl refl refl
     where
-      by : (t u : Bool) (o : Option (List ℕ)) → hasEnd l ≡ t → starts (ascii "planes=") (take (indexOf newline l) l) ≡ u
-          → numbersIn (limits sh) (drop (length (ascii "planes=")) (take (indexOf newline l) l)) ≡ o
-          → P (cond t (cond u (counted o (λ planes. go planes (indexOf newline l + 1))) (notOpened (refusal 6 6 0))) (notOpened (refusal 5 0 0)))
+      by : (t u : Bool) (o : Option (List ℕ)) → hasEnd l ≡ t → starts key (take (indexOf newline l) l) ≡ u → numbersIn most (drop (length key) (take (indexOf newline l) l)) ≡ o
+          → P (cond t (cond u (listed n o (λ ns. go ns (indexOf newline l + 1))) (notOpened (refusal 6 n 0))) (notOpened (refusal 5 0 0)))
       by false u o e f g = short
       by true false o e f g = wrong
       by true true none e f g = wrong
-      by true true (some counts) e f g = rest counts (record { inside = end-inside l e; key = f; counts-are = g })
+      by true true (some ns) e f g = rest ns (record { inside = end-inside l e; key-is = f; numbers-are = g })

@@ -1,5 +1,6 @@
 -- The header and its text (docs/CARD.md, "The card").
 use mathlib.Core.List.{List, [], _∷_, _++_}
+use mathlib.Core.Option.{Option, none, some}
 use Prim.Native.Char.{code}
 use Prim.Native.Nat.{ℕ, zero, suc, _+_, _*_}
 use Prim.Native.String.{String, len, charAt}
@@ -53,13 +54,22 @@ abbrev pub curveText : Curve → List ℕ
 curveText Linear = ascii "linear"
 curveText Cubic = ascii "cubic"
 
--- the seven lines
-unfoldable pub headerText : Header → List ℕ
-headerText h =
+-- ---- the lines
+-- the first six
+unfoldable pub firstLines : Header → List ℕ
+firstLines h =
     lineText (ascii "rows=") (h .shape .rows)
     ++ lineText (ascii "cols=") (h .shape .cols)
     ++ lineText (ascii "levels=") (h .shape .levels)
     ++ (ascii "curve=" ++ curveText (h .curve) ++ newline ∷ [])
     ++ lineText (ascii "step=") (h .step)
     ++ (ascii "planes=" ++ joined (take (layers (h .shape)) (h .planes)) ++ newline ∷ [])
-    ++ lineText (ascii "cells=") (h .cells)
+
+-- the line of losses; an old card has none
+unfoldable pub lossText : Option (List ℕ) → List ℕ
+lossText none = []
+lossText (some ls) = ascii "loss=" ++ joined ls ++ newline ∷ []
+
+-- all of them: the line of losses stands between planes and cells
+unfoldable pub headerText : Header → Option (List ℕ) → List ℕ
+headerText h losses = firstLines h ++ lossText losses ++ lineText (ascii "cells=") (h .cells)

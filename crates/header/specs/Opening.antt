@@ -1,9 +1,10 @@
--- Opening a card (docs/CARD.md, "Refusals", opening): the seven lines in turn, refusal 5 before 6 in each.
+-- Opening a card (docs/CARD.md, "Refusals", opening): the lines in turn, refusal 5 before 6 in each.
 --
 -- How a line hands on to the next: `taking n line go` is refusal 5 or 6 where line n does not end or is wrong; otherwise `go` goes on with the line's number
--- and its length. Each of the seven takes its line from the byte `at` on, and hands all that is known by then to the next:
---     opening (rows), openingCols, openingLevels, openingCurve, openingStep, openingPlanes, openingCells, which looks behind the last cell and ends it.
--- A definition can name only those above it, so they stand from the last line to the first.
+-- and its length. Each takes its line from the byte `at` on, and hands all that is known by then to the next:
+--     openingRows, openingCols, openingLevels, openingCurve, openingStep, openingPlanes: the first six lines, and where line 7 begins;
+--     openingLosses, openingCells: the line of losses, where there is one, and the cells, which looks behind the last cell and ends it.
+-- A definition can name only those above it, so both stand from the last line to the first.
 use mathlib.Core.Bool.{Bool, cond, not, _&&_}
 use mathlib.Core.List.{List, _++_}
 use mathlib.Core.Option.{Option, none, some}
@@ -25,13 +26,16 @@ use Rattle.header.specs.declared.Header.{Header}
 use Rattle.header.specs.declared.Details.{Details}
 use Rattle.header.specs.declared.Opened.{Opened}
 use Rattle.header.specs.Refusals.{refusal, detailsOf}
-use Rattle.header.specs.Header.{placesMost, cellBytes, ascii, curveText, cellsOf}
+use Rattle.header.specs.Header.{placesMost, cellBytes, ascii, curveText, planesOf, cellsOf}
+use Rattle.header.specs.Losses.{closed}
 use Rattle.header.specs.Plan.{firstOver}
 
--- what opening answers: a refusal, or the header and how many bytes it has. Beside a refusal the header is blank and the length 0
+-- what opening answers: a refusal, or the header, the losses that its line tells (an old card has no such line), and how many bytes it has. Beside a refusal the
+-- header is blank, there are no losses, and the length is 0
 pub record Opening : Type 0 where
   pub refused : Details
   pub header : Header
+  pub losses : Option (List ℕ)
   pub long : ℕ
 
 abbrev pub noHeader : Header
@@ -45,11 +49,14 @@ noHeader =
     }
 
 abbrev pub notOpened : Details → Opening
-notOpened d = record { refused = d; header = noHeader; long = 0 }
+notOpened d = record { refused = d; header = noHeader; losses = none; long = 0 }
 
--- the code's answer as such a record
-abbrev pub asOpening : Opened → Opening
-asOpening o = record { refused = detailsOf (o .refusal); header = o .header; long = o .length }
+abbrev pub opened : Header → Option (List ℕ) → ℕ → Opening
+opened h losses long = record { refused = refusal 0 0 0; header = h; losses = losses; long = long }
+
+-- the code's answer as such a record, with the losses that stand in the lent table
+abbrev pub asOpening : Opened → Option (List ℕ) → Opening
+asOpening o losses = record { refused = detailsOf (o .refusal); header = o .header; losses = losses; long = o .length }
 
 -- ---- line n in turn: refusal 5 where it does not end, 6 where it is wrong (which line)
 abbrev pub taking : ℕ → Line → (ℕ → ℕ → Opening) → Opening
@@ -82,32 +89,26 @@ planesMost sh k = cond (ltb k (layers sh) && not (eqb (layerSize sh k) 0)) place
 unfoldable pub limits : Shape → List ℕ
 limits sh = tabulate (layers sh) (planesMost sh)
 
--- a header keeps a count for each layer there may be, 0 past the last
-abbrev pub counted : Option (List ℕ) → (List ℕ → Opening) → Opening
-counted none go = notOpened (refusal 6 6 0)
-counted (some counts) go = go (padded layersMost counts)
+-- ---- a line n of a key and numbers: as many as there are limits, each at most its own
+abbrev pub listed : ℕ → Option (List ℕ) → (List ℕ → Opening) → Opening
+listed n none go = notOpened (refusal 6 n 0)
+listed n (some ns) go = go ns
 
-abbrev pub takingPlanes : Shape → List ℕ → (List ℕ → ℕ → Opening) → Opening
-takingPlanes sh l go =
+abbrev pub takingNumbers : ℕ → List ℕ → List ℕ → List ℕ → (List ℕ → ℕ → Opening) → Opening
+takingNumbers n key most l go =
     cond (hasEnd l)
-    (cond (starts (ascii "planes=") (take (indexOf newline l) l))
-    (counted (numbersIn (limits sh) (drop (length (ascii "planes=")) (take (indexOf newline l) l))) (λ planes. go planes (indexOf newline l + 1)))
-    (notOpened (refusal 6 6 0)))
+    (cond (starts key (take (indexOf newline l) l))
+    (listed n (numbersIn most (drop (length key) (take (indexOf newline l) l))) (λ ns. go ns (indexOf newline l + 1)))
+    (notOpened (refusal 6 n 0)))
     (notOpened (refusal 5 0 0))
 
--- ---- the lines, from the last to the first
--- line 7 names the cells that the counts make; then refusal 7, bytes behind the last cell
-unfoldable pub openingCells : List ℕ → Header → ℕ → Opening
-openingCells bs h at =
-    taking 7 (lineAt (ascii "cells=") (h .cells) (h .cells) (drop at bs)) (λ _ n.
-    cond (ltb (at + n + cellBytes * h .cells) (length bs))
-    (notOpened (refusal 7 0 0))
-    (record { refused = refusal 0 0 0; header = h; long = at + n }))
-
+-- ---- the first six lines, from the last to the first
+-- a header keeps a count for each layer there may be, 0 past the last
 unfoldable pub openingPlanes : List ℕ → Shape → Curve → ℕ → ℕ → Opening
 openingPlanes bs sh curve step at =
-    takingPlanes sh (drop at bs) (λ planes n.
-    openingCells bs (record { shape = sh; curve = curve; step = step; planes = planes; cells = cellsOf sh planes }) (at + n))
+    takingNumbers 6 (ascii "planes=") (limits sh) (drop at bs) (λ counts n.
+    let planes = padded layersMost counts in
+    opened (record { shape = sh; curve = curve; step = step; planes = planes; cells = cellsOf sh planes }) none (at + n))
 
 unfoldable pub openingStep : List ℕ → Shape → Curve → ℕ → Opening
 openingStep bs sh curve at = taking 5 (lineAt (ascii "step=") 0 stepMost (drop at bs)) (λ step n. openingPlanes bs sh curve step (at + n))
@@ -124,8 +125,33 @@ openingLevels bs rows cols at =
 unfoldable pub openingCols : List ℕ → ℕ → ℕ → Opening
 openingCols bs rows at = taking 2 (lineAt (ascii "cols=") 1 (pointsMost / rows) (drop at bs)) (λ cols n. openingLevels bs rows cols (at + n))
 
+unfoldable pub openingRows : List ℕ → Opening
+openingRows bs = taking 1 (lineAt (ascii "rows=") 1 pointsMost bs) (openingCols bs)
+
+-- ---- what stands behind them
+-- the line of cells, which is line 7 or 8, names the cells that the counts make; then refusal 7, bytes behind the last cell
+unfoldable pub openingCells : List ℕ → Header → Option (List ℕ) → ℕ → ℕ → Opening
+openingCells bs h losses line at =
+    taking line (lineAt (ascii "cells=") (h .cells) (h .cells) (drop at bs)) (λ _ n.
+    cond (ltb (at + n + cellBytes * h .cells) (length bs))
+    (notOpened (refusal 7 0 0))
+    (opened h losses (at + n)))
+
+-- the line of losses: a number for each layer and each number of missing planes, none above the closed loss. The cells are then line 8
+unfoldable pub openingTold : List ℕ → Header → ℕ → Opening
+openingTold bs h at =
+    takingNumbers 7 (ascii "loss=") (closed (planesOf h) (layers (h .shape))) (drop at bs) (λ ls n. openingCells bs h (some ls) 8 (at + n))
+
+-- line 7 is that line where it starts with its key; an old card has its cells there
+unfoldable pub openingLosses : List ℕ → Header → ℕ → Opening
+openingLosses bs h at = cond (starts (ascii "loss=") (drop at bs)) (openingTold bs h at) (openingCells bs h none 7 at)
+
+-- ---- all lines
+abbrev pub afterFirst : Opening → (Header → ℕ → Opening) → Opening
+afterFirst o go = cond (eqb (o .refused .number) 0) (go (o .header) (o .long)) o
+
 unfoldable pub opening : List ℕ → Opening
-opening bs = taking 1 (lineAt (ascii "rows=") 1 pointsMost bs) (openingCols bs)
+opening bs = afterFirst (openingRows bs) (openingLosses bs)
 
 -- ---- a header that opening can give: every one that it gives is well-formed (`header`, proofs/Refusing, `header-right`)
 -- are these a shape that is accepted and counts that a header of it may have?

@@ -1,18 +1,25 @@
 -- What the calls work with: cells of planes as lists, counts and totals by them, and room for a text.
-use mathlib.Core.Bool.{cond}
+use mathlib.Core.Bool.{Bool, cond, _&&_}
 use mathlib.Core.List.{List}
+use mathlib.Core.Option.{none, some}
 use Prim.Native.Nat.{ℕ, _+_, _-_, _*_, _/_}
 use lib.ListN.{length, getD}
+use lib.Seq.{sets}
 use Rattle.sheet.specs.declared.Shape.{Shape}
 use Rattle.sheet.specs.Limits.{pointsMost, layersMost}
 use Rattle.sheet.specs.Lists.{tabulate, total}
 use Rattle.sheet.specs.Workings.Shapes.{hasLayer}
-use Rattle.text.specs.Text.{padded}
+use Rattle.text.specs.Joined.{joined}
 use Rattle.header.specs.declared.Header.{Header}
-use Rattle.header.specs.declared.HeaderText.{HeaderText}
 use Rattle.header.specs.Header.{placesMost, cellPoints, planeCells, headerText, cellsOf}
-use lib.Dec.{eqb}
-use Rattle.header.specs.Opening.{countsFit}
+use lib.Dec.{leb, eqb}
+use Rattle.header.specs.declared.HeaderEnd.{HeaderEnd}
+use Rattle.header.specs.declared.Opened.{Opened}
+use Rattle.header.specs.Refusals.{detailsOf}
+use Rattle.header.specs.Losses.{told}
+use Rattle.header.specs.Opening.{Opening, opened, notOpened, asOpening, countsFit}
+use Rattle.text.specs.Workings.{putting}
+use mathlib.Core.Path.{_≡_}
 
 -- the most cells of one plane: of a layer that has every point
 abbrev pub planeCellsMost : ℕ
@@ -38,12 +45,29 @@ spansOf sh = tabulate layersMost (cellsAt sh)
 unfoldable pub cellsBy : List ℕ → List ℕ → ℕ
 cellsBy spans planes = total (λ k. getD spans k 0 * getD planes k 0) layersMost
 
--- room for any header's text, and the text of one in it
+-- room for the text of any header but its losses
 abbrev pub textMost : ℕ
 textMost = 512
 
-abbrev pub textOf : Header → HeaderText
-textOf h = record { bytes = padded textMost (headerText h); length = length (headerText h) }
+-- is there room for any header with these losses? Where there is not, none is put
+unfoldable pub roomFor : List ℕ → List ℕ → Bool
+roomFor out losses = leb textMost (length out) && leb (length (joined losses)) (length out - textMost)
+
+unfoldable pub puttingHeader : List ℕ → Header → List ℕ → List ℕ
+puttingHeader out h losses = cond (roomFor out losses) (sets out 0 (headerText h (some losses))) out
+
+unfoldable pub headerEnd : List ℕ → Header → List ℕ → ℕ
+headerEnd out h losses = cond (roomFor out losses) (length (headerText h (some losses))) 0
+
+-- what opening answers of an old card that ends so, as far as its line of cells tells
+abbrev pub endedBy : HeaderEnd → Header → Opening
+endedBy e h = cond (eqb (detailsOf (e .refusal) .number) 0) (opened h none (e .length)) (notOpened (detailsOf (e .refusal)))
+
+-- what the code answers is what opening answers, and the losses told stand at the front of the lent table, where there is room for them
+pub record Answers (r : Opened) (before after : List ℕ) (o : Opening) : Type 0 where
+  pub is : asOpening r (o .losses) ≡ o
+  pub many : r .losses ≡ length (told (o .losses))
+  pub table : after ≡ putting before 0 (told (o .losses))
 
 -- ---- limits of counts by the cells that one plane of each layer spans: a layer is empty exactly where it spans none
 unfoldable pub mostBy : ℕ → ℕ

@@ -4,17 +4,19 @@ ghost use Rattle.header.specs.Refusals as R;
 ghost use Rattle.header.specs.Workings as W;
 ghost use Rattle.header.specs.Plan as P;
 
+mod ending;
 mod opening;
 mod planes;
 mod printing;
 
 pub use opening::open;
+pub use opening::open_with_losses;
 pub use planes::first_over;
 pub use planes::is_well_formed;
 pub use planes::plane_cells;
 use planes::spans_of;
 pub use planes::total_cells;
-pub use printing::header_text;
+pub use printing::put_header;
 use sheet::Curve;
 pub use sheet::MOST_LAYERS;
 use sheet::MOST_POINTS;
@@ -32,7 +34,10 @@ pub const MOST_PLACE_CELLS: usize = (MOST_POINTS + MOST_LAYERS * (CELL_POINTS - 
 
 pub const MOST_CELLS: usize = MOST_PLACES as usize * MOST_PLACE_CELLS;
 
-// Room for any header's text.
+// The most losses that a card tells: one for each plane that there may be.
+pub const MOST_LOSSES: usize = MOST_LAYERS * MOST_PLACES as usize;
+
+// Room for the text of any header but its losses.
 pub const MOST_TEXT: usize = 512;
 
 // Why a call is refused; `details_of` gives the number and the details.
@@ -74,16 +79,17 @@ pub struct Header {
     pub cells: u64,
 }
 
-// A card's header and how many bytes it has; blank beside a refusal.
+// A card's header, how many losses its line tells, 0 for an old card, and how many bytes it has; blank beside a refusal.
 pub struct Opened {
     pub refusal: Refusal,
     pub header: Header,
+    pub losses: usize,
     pub length: usize,
 }
 
-// The text of a header: the first `length` of the bytes; zeros follow.
-pub struct HeaderText {
-    pub bytes: [u8; MOST_TEXT],
+// How a header ends: its bytes, or why it is refused.
+pub(crate) struct HeaderEnd {
+    pub refusal: Refusal,
     pub length: usize,
 }
 

@@ -1,16 +1,19 @@
-// Opening any bytes: the lines in turn, each handing on to the next.
+// Opening any bytes: the first six lines in turn, each handing on to the next, and then what stands behind them.
 ghost use mathlib.Core.Path.{_≡_};
 ghost use mathlib.Core.Bool.{true};
 ghost use Prim.Native.Nat.{_*_, _^_, _≤_};
-ghost use lib.ListN.{drop};
+ghost use mathlib.Core.Option.{none};
+ghost use lib.ListN.{length, drop};
 ghost use Rattle.sheet.specs.Limits.{pointsMost};
 ghost use Rattle.sheet.specs.Sheet as S;
 ghost use Rattle.header.specs.Refusals as R;
+ghost use Rattle.text.specs.Workings as Wk;
+ghost use Rattle.header.specs.Losses as L;
 ghost use Rattle.header.specs.Opening as O;
-use crate::CELL_BYTES;
 use crate::Header;
 use crate::Opened;
 use crate::Refusal;
+use crate::ending::open_losses;
 use crate::planes::cells_of;
 use crate::planes::limits;
 use crate::planes::spans_of;
@@ -22,8 +25,8 @@ use sheet::MOST_STEP;
 use sheet::Shape;
 use text::Line;
 
-fn refused(refusal: Refusal) -> Opened
-    ensures { λ r. ⌜ O.asOpening r ≡ O.notOpened (R.detailsOf refusal) ⌝ }
+pub(crate) fn refused(refusal: Refusal) -> Opened
+    ensures { λ r. ⌜ (O.asOpening r none ≡ O.notOpened (R.detailsOf refusal)) × (r .losses ≡ 0) ⌝ }
 {
     Opened {
         refusal,
@@ -39,30 +42,8 @@ fn refused(refusal: Refusal) -> Opened
             planes: [0; MOST_LAYERS],
             cells: 0,
         },
+        losses: 0,
         length: 0,
-    }
-}
-
-// Line 7, and what follows it.
-fn open_cells(bytes: &[u8], header: Header, at: usize) -> Opened
-    requires { ⌜ header .cells ≤ 2 ^ 32 ⌝ }
-    ensures { λ r. ⌜ O.asOpening r ≡ O.openingCells (now (bytes .entry)) header at ⌝ }
-{
-    let cells = header.cells;
-    match text::read_line(bytes, at, b"cells=", cells, cells) {
-        Line::Short => refused(Refusal::HeaderCut),
-        Line::Wrong => refused(Refusal::BadLine(7)),
-        Line::Number { value: _, length } => {
-            let end = at + length;
-            if CELL_BYTES * (cells as usize) < bytes.len() - end {
-                return refused(Refusal::TrailingBytes);
-            }
-            Opened {
-                refusal: Refusal::Accepted,
-                header,
-                length: end,
-            }
-        }
     }
 }
 
@@ -72,7 +53,7 @@ const COUNTS_AT: usize = 7;
 // Line 6.
 fn open_planes(bytes: &[u8], shape: Shape, curve: Curve, step: u64, at: usize) -> Opened
     requires { ⌜ S.accepted shape ≡ true ⌝ }
-    ensures { λ r. ⌜ O.asOpening r ≡ O.openingPlanes (now (bytes .entry)) shape curve step at ⌝ }
+    ensures { λ r. ⌜ O.asOpening r none ≡ O.openingPlanes (now (bytes .entry)) shape curve step at ⌝ }
 {
     let end = text::find(bytes, at, b'\n');
     if bytes.len() <= end {
@@ -89,23 +70,24 @@ fn open_planes(bytes: &[u8], shape: Shape, curve: Curve, step: u64, at: usize) -
         return refused(Refusal::BadLine(6));
     }
     let cells = cells_of(spans, planes);
-    open_cells(
-        bytes,
-        Header {
+    Opened {
+        refusal: Refusal::Accepted,
+        header: Header {
             shape,
             curve,
             step,
             planes,
             cells,
         },
-        end + 1,
-    )
+        losses: 0,
+        length: end + 1,
+    }
 }
 
 // Line 5.
 fn open_step(bytes: &[u8], shape: Shape, curve: Curve, at: usize) -> Opened
     requires { ⌜ S.accepted shape ≡ true ⌝ }
-    ensures { λ r. ⌜ O.asOpening r ≡ O.openingStep (now (bytes .entry)) shape curve at ⌝ }
+    ensures { λ r. ⌜ O.asOpening r none ≡ O.openingStep (now (bytes .entry)) shape curve at ⌝ }
 {
     match text::read_line(bytes, at, b"step=", 0, MOST_STEP) {
         Line::Short => refused(Refusal::HeaderCut),
@@ -161,7 +143,7 @@ fn curve_of(value: u64) -> Curve
 // Line 4.
 fn open_curve(bytes: &[u8], shape: Shape, at: usize) -> Opened
     requires { ⌜ S.accepted shape ≡ true ⌝ }
-    ensures { λ r. ⌜ O.asOpening r ≡ O.openingCurve (now (bytes .entry)) shape at ⌝ }
+    ensures { λ r. ⌜ O.asOpening r none ≡ O.openingCurve (now (bytes .entry)) shape at ⌝ }
 {
     match curve_line(bytes, at) {
         Line::Short => refused(Refusal::HeaderCut),
@@ -176,7 +158,7 @@ fn open_curve(bytes: &[u8], shape: Shape, at: usize) -> Opened
 // Line 3.
 fn open_levels(bytes: &[u8], rows: u64, cols: u64, at: usize) -> Opened
     requires { ⌜ (1 ≤ rows) × (1 ≤ cols) × (rows * cols ≤ pointsMost) ⌝ }
-    ensures { λ r. ⌜ O.asOpening r ≡ O.openingLevels (now (bytes .entry)) rows cols at ⌝ }
+    ensures { λ r. ⌜ O.asOpening r none ≡ O.openingLevels (now (bytes .entry)) rows cols at ⌝ }
 {
     match text::read_line(bytes, at, b"levels=", 0, MOST_LEVELS as u64) {
         Line::Short => refused(Refusal::HeaderCut),
@@ -191,7 +173,7 @@ fn open_levels(bytes: &[u8], rows: u64, cols: u64, at: usize) -> Opened
 // Line 2: the points are at most 8,192.
 fn open_cols(bytes: &[u8], rows: u64, at: usize) -> Opened
     requires { ⌜ (1 ≤ rows) × (rows ≤ pointsMost) ⌝ }
-    ensures { λ r. ⌜ O.asOpening r ≡ O.openingCols (now (bytes .entry)) rows at ⌝ }
+    ensures { λ r. ⌜ O.asOpening r none ≡ O.openingCols (now (bytes .entry)) rows at ⌝ }
 {
     match text::read_line(bytes, at, b"cols=", 1, MOST_POINTS as u64 / rows) {
         Line::Short => refused(Refusal::HeaderCut),
@@ -200,13 +182,38 @@ fn open_cols(bytes: &[u8], rows: u64, at: usize) -> Opened
     }
 }
 
-// Opens any bytes: the header, or the first thing that is wrong.
-pub fn open(bytes: &[u8]) -> Opened
-    ensures { λ r. ⌜ O.asOpening r ≡ O.opening (now (bytes .entry)) ⌝ }
+// Line 1, and so the first six.
+fn open_rows(bytes: &[u8]) -> Opened
+    ensures { λ r. ⌜ O.asOpening r none ≡ O.openingRows (now (bytes .entry)) ⌝ }
 {
     match text::read_line(bytes, 0, b"rows=", 1, MOST_POINTS as u64) {
         Line::Short => refused(Refusal::HeaderCut),
         Line::Wrong => refused(Refusal::BadLine(1)),
         Line::Number { value, length } => open_cols(bytes, value, length),
     }
+}
+
+// Opens any bytes: the header and the losses that its line tells, put at the front of a lent table that has room for them, or the first thing that is wrong.
+pub fn open_with_losses(bytes: &[u8], losses: &mut [u32]) -> Opened
+    ensures { λ r. ⌜ O.asOpening r (O.opening (now (bytes .entry)) .losses) ≡ O.opening (now (bytes .entry)) ⌝ }
+    ensures { λ r. ⌜ (r .losses ≡ length (L.told (O.opening (now (bytes .entry)) .losses))) × (now (losses .exit) ≡ Wk.putting (now (losses .entry)) 0 (L.told (O.opening (now (bytes .entry)) .losses))) ⌝ }
+{
+    let first = open_rows(bytes);
+    let refusal = first.refusal;
+    match refusal {
+        Refusal::Accepted => {
+            let header = first.header;
+            open_losses(bytes, header, first.length, losses)
+        }
+        _ => refused(refusal),
+    }
+}
+
+// Opens any bytes, where only the header is asked for.
+pub fn open(bytes: &[u8]) -> Opened
+    ensures { λ r. ⌜ O.asOpening r (O.opening (now (bytes .entry)) .losses) ≡ O.opening (now (bytes .entry)) ⌝ }
+    ensures { λ r. ⌜ r .losses ≡ length (L.told (O.opening (now (bytes .entry)) .losses)) ⌝ }
+{
+    let mut nowhere = [0u32; 0];
+    open_with_losses(bytes, &mut nowhere)
 }

@@ -1,13 +1,14 @@
 // The text of a header.
+ghost use mathlib.Core.Option.{some};
 ghost use mathlib.Core.Path.{_≡_};
 ghost use Prim.Native.Nat.{_+_, _≤_};
 ghost use lib.ListN.{length};
 ghost use lib.Seq.{sets};
+ghost use Rattle.text.specs.Joined.{joined};
 ghost use Rattle.text.specs.Line as L;
 ghost use Rattle.header.specs.Header as Hd;
 ghost use Rattle.header.specs.Workings as W;
 use crate::Header;
-use crate::HeaderText;
 use crate::MOST_TEXT;
 use sheet::Curve;
 
@@ -32,10 +33,10 @@ fn put_curve(out: &mut [u8], at: usize, curve: Curve) -> usize
     }
 }
 
-// Puts the seven lines, in a slice with room for any header, and answers their length.
-fn put_header(out: &mut [u8], header: Header) -> usize
+// Puts the first six lines, in a slice with room for any header, and answers their length.
+fn put_first(out: &mut [u8], header: Header) -> usize
     requires { ⌜ W.textMost ≤ length (now out) ⌝ }
-    ensures { λ r. ⌜ (r ≡ length (Hd.headerText header)) × (now (out .exit) ≡ sets (now (out .entry)) 0 (Hd.headerText header)) ⌝ }
+    ensures { λ r. ⌜ (r ≡ length (Hd.firstLines header)) × (now (out .exit) ≡ sets (now (out .entry)) 0 (Hd.firstLines header)) ⌝ }
 {
     let shape = header.shape;
     let rows = shape.rows;
@@ -54,14 +55,41 @@ fn put_header(out: &mut [u8], header: Header) -> usize
     let layers = sheet::layer_count(shape);
     let h = text::put_joined(out, g, &planes[..layers]);
     out[h] = b'\n';
-    put_line(out, h + 1, b"cells=", header.cells)
+    h + 1
 }
 
-// The text of a header.
-pub fn header_text(header: Header) -> HeaderText
-    ensures { λ r. ⌜ r ≡ W.textOf header ⌝ }
+// Puts the line of losses.
+fn put_losses(out: &mut [u8], at: usize, losses: &[u64]) -> usize
+    requires { ⌜ at + length (Hd.lossText (some (now losses))) ≤ length (now out) ⌝ }
+    ensures { λ r. ⌜ (r ≡ at + length (Hd.lossText (some (now (losses .entry))))) × (now (out .exit) ≡ sets (now (out .entry)) at (Hd.lossText (some (now (losses .entry))))) ⌝ }
 {
-    let mut bytes = [0u8; MOST_TEXT];
-    let length = put_header(&mut bytes, header);
-    HeaderText { bytes, length }
+    let from = text::put(out, at, b"loss=");
+    let end = text::put_joined(out, from, losses);
+    out[end] = b'\n';
+    end + 1
+}
+
+// Puts all lines, where there is room for any header with these losses.
+fn put_lines(out: &mut [u8], header: Header, losses: &[u64]) -> usize
+    requires { ⌜ W.textMost + length (joined (now losses)) ≤ length (now out) ⌝ }
+    ensures { λ r. ⌜ (r ≡ length (Hd.headerText header (some (now (losses .entry))))) × (now (out .exit) ≡ sets (now (out .entry)) 0 (Hd.headerText header (some (now (losses .entry))))) ⌝ }
+{
+    let first = put_first(out, header);
+    let end = put_losses(out, first, losses);
+    put_line(out, end, b"cells=", header.cells)
+}
+
+// Puts the text of a header and its losses at the front of the output and answers its length. Where there is not room for any header with these losses,
+// nothing is put, and the answer is 0.
+pub fn put_header(out: &mut [u8], header: Header, losses: &[u64]) -> usize
+    ensures { λ r. ⌜ (r ≡ W.headerEnd (now (out .entry)) header (now (losses .entry))) × (now (out .exit) ≡ W.puttingHeader (now (out .entry)) header (now (losses .entry))) ⌝ }
+{
+    let room = out.len();
+    if room < MOST_TEXT {
+        return 0;
+    }
+    if !text::joined_fits(losses, room - MOST_TEXT) {
+        return 0;
+    }
+    put_lines(out, header, losses)
 }

@@ -32,6 +32,11 @@ module _ (sh : Shape) where
   pub block-next : (k : ℕ) → blockStart sh (k + 1) ≡ blockStart sh k + cellPoints * planeCells sh k
   block-next k = rw (add-one k) (block-suc k)
 
+  -- it is whole cells
+  pub block-whole : (k : ℕ) → blockStart sh k ≡ cellPoints * total (planeCells sh) k
+  unfolding blockStart
+  block-whole k = total-times (planeCells sh) k
+
   pub block-rises : (j k : ℕ) → j ≤ k → blockStart sh j ≤ blockStart sh k
   unfolding blockStart
   block-rises j k h = total-rises (λ j. cellPoints * planeCells sh j) j k h
@@ -42,8 +47,7 @@ module _ (sh : Shape) where
 
   module _ (ok : accepted sh ≡ true) where
     pub blocks-most : blockStart sh (layers sh) ≤ wordsMost
-    unfolding blockStart
-    blocks-most = omega (arith, total-times (planeCells sh) (layers sh), layers-most sh ok)
+    blocks-most = omega (arith, block-whole (layers sh), layers-most sh ok)
 
     pub block-room : (k : ℕ) → k < layers sh → blockStart sh k + cellPoints * planeCells sh k ≤ wordsMost
     block-room k h = omega (arith, blocks-apart k (layers sh) h, blocks-most)

@@ -2,7 +2,8 @@
 use mathlib.Core.Path.{_≡_, refl, sym, ap, ap₂, _∙_}
 use mathlib.Core.Bool.{true, false, true≢false, _&&_}
 use mathlib.Core.List.{List, [], _++_}
-use Prim.Native.Nat.{ℕ, _+_, _*_, _<_, _≤_}
+use mathlib.Core.Option.{some}
+use Prim.Native.Nat.{ℕ, suc, _+_, _*_, _<_, _≤_}
 use native.Mathlib.Omega.{arith}
 use borrow.Author.Tests.{eq-eqb, lt-leb, ltb-true, eqb-true}
 use lib.Dec.{ltb, leb, eqb}
@@ -10,7 +11,7 @@ use lib.IntN.{ℤ}
 use lib.ListN.{length, getD, length-append}
 use lib.Seq.{sets}
 use Rattle.integers.proofs.Bools.{by, and-no-left, and-no-right}
-use Rattle.digits.specs.Digits.{holds}
+use Rattle.digits.specs.Digits.{holds, loss}
 use Rattle.digits.proofs.Firsts.{first-le, first-now}
 use Rattle.sheet.specs.declared.Shape.{Shape}
 use Rattle.sheet.specs.declared.Curve.{Curve}
@@ -23,21 +24,24 @@ use Rattle.layers.proofs.Answers.{settled-yes}
 use Rattle.sheet.proofs.Lists.{getD-tabulate}
 use Rattle.sheet.proofs.Places.{place-in}
 use Rattle.header.specs.declared.Header.{Header}
-use Rattle.header.specs.Header.{placesMost, cellBytes, cellsOf, headerText}
-use Rattle.header.specs.Workings.{cellsMost, textMost, cellsNamed}
+use Rattle.header.specs.Header.{placesMost, cellBytes, planesOf, cellsOf, headerText}
+use Rattle.header.specs.Losses.{laid, closed}
+use Rattle.header.specs.Workings.{cellsMost, cellsNamed}
 use Rattle.header.specs.Opening.{planesMost, wellFormed}
-use Rattle.header.proofs.WellFormed.{WellFormed, counts-by, right-yes, right-by, most-some, few-planes}
+use Rattle.header.proofs.WellFormed.{WellFormed, counts-by, right-yes, right-by, most-some, layers-few, few-planes}
+use Rattle.header.proofs.Laid.{laid-same, laid-within, LossesFit}
 use Rattle.text.proofs.Stores.{sets-sets}
 use Rattle.order.specs.CardOrder.{inOrder}
-use Rattle.header.proofs.TextLength.{right-fits}
+use Rattle.header.proofs.TextLength.{losses-fit, right-fits}
 use Rattle.header.proofs.Total.{right-cells}
 use Rattle.text.specs.Workings.{after, putting}
 use Rattle.text.proofs.Fitting.{put-fits, put-over}
-use Rattle.packing.specs.Planes.{enough, planesFor, countsFor, headerFor, body, cardOf, allHeld}
-use Rattle.packing.specs.Workings.Words.{Gathered, countAt, wordPlane, flatCard}
+use Rattle.packing.specs.Planes.{enough, planesFor, countsFor, headerFor, measuredLoss, lossesFor, body, cardOf, allHeld}
+use Rattle.packing.specs.Workings.Words.{blockStart, Gathered, countAt, measuredAt, rowsOf, rowPlane, textRoom, TextFits, flatCard}
 use Rattle.packing.specs.Workings.Calls.{cardFor}
-use Rattle.packing.proofs.FlatPlanes.{words-length, flat-body}
+use Rattle.packing.proofs.FlatPlanes.{rows-length, flat-body}
 use Rattle.packing.proofs.HeldLayers.{enough-by}
+use Rattle.packing.proofs.Losses.{losses-same, measured-most}
 use Rattle.packing.proofs.Needed.{counts-same}
 
 -- ---- the counts are right
@@ -75,38 +79,50 @@ module _ (sh : Shape) (ok : accepted sh ≡ true) (qs : List ℤ) where
     pub header-right : WellFormed (headerFor sh curve e qs)
     header-right = record { shape = ok; step = step; counts = counts-most sh qs; cells = refl }
 
-    pub card-length : length (cardOf sh curve e qs) ≡ length (headerText (headerFor sh curve e qs)) + length (body (headerFor sh curve e qs) qs)
-    unfolding cardOf
-    card-length = length-append (headerText (headerFor sh curve e qs)) (body (headerFor sh curve e qs) qs)
+    -- the losses measured are none above the closed ones, so it takes them
+    pub measured-fit : LossesFit (headerFor sh curve e qs) (some (lossesFor sh qs))
+    unfolding lossesFor
+    measured-fit =
+        let h = headerFor sh curve e qs in
+        let counted : closed (planesFor sh qs) (layers sh) ≡ closed (planesOf h) (layers sh) =
+        laid-same (λ k d. loss d) (λ k d. loss d) (planesFor sh qs) (planesOf h) (layers sh) (λ k l. sym (counts-at sh qs k (omega (arith, layers-few header-right)))) (λ k j _ _. refl) in
+        rw (← counted) (laid-within (planesFor sh qs) (measuredLoss sh qs) (λ k d. loss d) (layers sh) (λ k j _ _. measured-most sh qs k (suc j)))
 
--- ---- what is put: a header's text and the planes from words, where both fit; else nothing
-module _ (h : Header) (r : wellFormed h ≡ true) (ws : List ℕ) where
+    pub card-length : length (cardOf sh curve e qs) ≡ length (headerText (headerFor sh curve e qs) (some (lossesFor sh qs))) + length (body (headerFor sh curve e qs) qs)
+    unfolding cardOf
+    card-length = length-append (headerText (headerFor sh curve e qs) (some (lossesFor sh qs))) (body (headerFor sh curve e qs) qs)
+
+-- ---- what is put: a header's text with its losses and the planes from rows, where both fit; else nothing
+module _ (h : Header) (r : wellFormed h ≡ true) (ls : List ℕ) (fits : TextFits h ls) (rows : List ℕ) where
+  abbrev text : List ℕ
+  text = headerText h (some ls)
+
   abbrev planes : List ℕ
-  planes = inOrder h (wordPlane (h .shape) ws)
+  planes = inOrder h (rowPlane (h .shape) rows)
 
   pub planes-long : length planes ≡ cellBytes * h .cells
-  planes-long = let ok = right-yes h r in words-length h ws (few-planes ok) ∙ ap (λ (n : ℕ). cellBytes * n) (sym (ok .cells))
+  planes-long = let ok = right-yes h r in rows-length h rows (few-planes ok) ∙ ap (λ (n : ℕ). cellBytes * n) (sym (ok .cells))
 
-  flat-length : length (flatCard h ws) ≡ length (headerText h) + cellBytes * h .cells
+  flat-length : length (flatCard h ls rows) ≡ length text + cellBytes * h .cells
   unfolding flatCard
-  flat-length = length-append (headerText h) planes ∙ ap (λ (n : ℕ). length (headerText h) + n) planes-long
+  flat-length = length-append text planes ∙ ap (λ (n : ℕ). length text + n) planes-long
 
-  pub flat-few : length (headerText h) + cellBytes * h .cells ≤ textMost + cellBytes * cellsMost
-  flat-few = omega (arith, right-fits (right-yes h r), right-cells (right-yes h r))
+  pub flat-few : length text + cellBytes * h .cells ≤ textRoom + cellBytes * cellsMost
+  flat-few = omega (arith, fits .text, right-cells (right-yes h r))
 
-  pub flat-none : (out : List ℕ) → length out < length (headerText h) + cellBytes * h .cells → (0 ≡ after out 0 (flatCard h ws)) × (out ≡ putting out 0 (flatCard h ws))
-  flat-none out l = let over = put-over out 0 (flatCard h ws) (omega (arith, flat-length)) in (sym (over .0), sym (over .1))
+  pub flat-none : (out : List ℕ) → length out < length text + cellBytes * h .cells → (0 ≡ after out 0 (flatCard h ls rows)) × (out ≡ putting out 0 (flatCard h ls rows))
+  flat-none out l = let over = put-over out 0 (flatCard h ls rows) (omega (arith, flat-length)) in (sym (over .0), sym (over .1))
 
-  pub flat-all : (out : List ℕ) → length (headerText h) + cellBytes * h .cells ≤ length out → (n : ℕ) (mid end : List ℕ) → mid ≡ putting out 0 (headerText h)
-      → n ≡ length (headerText h) + length planes → end ≡ sets mid (length (headerText h)) planes → (n ≡ after out 0 (flatCard h ws)) × (end ≡ putting out 0 (flatCard h ws))
+  pub flat-all : (out : List ℕ) → length text + cellBytes * h .cells ≤ length out → (n : ℕ) (mid end : List ℕ) → mid ≡ putting out 0 text
+      → n ≡ length text + length planes → end ≡ sets mid (length text) planes → (n ≡ after out 0 (flatCard h ls rows)) × (end ≡ putting out 0 (flatCard h ls rows))
   flat-all out l n mid end a x b =
-      let whole : sets (sets out 0 (headerText h)) (0 + length (headerText h)) planes ≡ sets out 0 (flatCard h ws) =
-      unfold flatCard in (sets-sets out 0 (headerText h) planes) in
-      let from : length (headerText h) ≡ 0 + length (headerText h) = omega arith in
-      let text = put-fits out 0 (headerText h) (omega arith) in
-      let all = put-fits out 0 (flatCard h ws) (omega (arith, flat-length)) in (
+      let whole : sets (sets out 0 text) (0 + length text) planes ≡ sets out 0 (flatCard h ls rows) =
+      unfold flatCard in (sets-sets out 0 text planes) in
+      let from : length text ≡ 0 + length text = omega arith in
+      let put = put-fits out 0 text (omega arith) in
+      let all = put-fits out 0 (flatCard h ls rows) (omega (arith, flat-length)) in (
         omega (arith, x, planes-long, flat-length, all .0),
-        b ∙ ap₂ (λ (x : List ℕ) (m : ℕ). sets x m planes) (a ∙ text .1) from
+        b ∙ ap₂ (λ (x : List ℕ) (m : ℕ). sets x m planes) (a ∙ put .1) from
             ∙ whole ∙ sym (all .1),
       )
 
@@ -161,12 +177,27 @@ module _ (sh : Shape) (e : ℕ) (settles : settled sh e ≡ true) (curve : Curve
         ap₂ (λ (a : List ℕ) (b : ℕ). record { shape = sh; curve = curve; step = e; planes = a; cells = b }) planes-are
         (named ∙ ap (cellsNamed sh) planes-are ∙ cells-named sh ok qs)
 
-    pub made-right : wellFormed made ≡ true
-    made-right = ap wellFormed made-is ∙ right-by H (header-right sh ok qs curve e step)
+    right : WellFormed H
+    right = header-right sh ok qs curve e step
 
-    pub card-is : flatCard made ws ≡ cardFor sh curve e qs
-    unfolding flatCard cardFor cardOf
-    card-is =
-        rw (settles, filled, held)
-        (ap (λ (h : Header). headerText h ++ inOrder h (wordPlane (h .shape) ws)) made-is
-        ∙ ap (λ (x : List ℕ). headerText H ++ x) (flat-body H (few-planes (header-right sh ok qs curve e step)) qs ws all (λ j _. each j)))
+    pub made-right : wellFormed made ≡ true
+    made-right = ap wellFormed made-is ∙ right-by H right
+
+    -- and with the losses measured of the words
+    module _ (ls : List ℕ) (told : ls ≡ laid (measuredAt sh ws) (λ k. getD planes k 0) (layers sh)) where
+      losses-are : ls ≡ lossesFor sh qs
+      losses-are =
+          told
+          ∙ losses-same sh qs ws all each (λ k. getD planes k 0) (λ k l. ap (λ (x : List ℕ). getD x k 0) planes-are ∙ counts-at sh qs k (omega (arith, layers-few right)))
+
+      pub made-fits : TextFits made ls
+      made-fits =
+          let fit = measured-fit sh ok qs curve e step in
+          rw (losses-are, made-is) (record { losses = omega (arith, losses-fit right (lossesFor sh qs) fit); text = omega (arith, right-fits right (some (lossesFor sh qs)) fit) })
+
+      pub card-is : flatCard made ls (rowsOf ws (blockStart sh (layers sh))) ≡ cardFor sh curve e qs
+      unfolding flatCard cardFor cardOf
+      card-is =
+          rw (settles, filled, held, losses-are)
+          (ap (λ (h : Header). headerText h (some (lossesFor sh qs)) ++ inOrder h (rowPlane (h .shape) (rowsOf ws (blockStart sh (layers sh))))) made-is
+          ∙ ap (λ (x : List ℕ). headerText H (some (lossesFor sh qs)) ++ x) (flat-body H ok (few-planes right) qs ws all (λ j _. each j)))

@@ -27,13 +27,12 @@ use Rattle.layers.specs.Layering.{ownLayer}
 use Rattle.header.specs.Header.{placesMost}
 use Rattle.header.specs.Plan.{firstOver}
 use Rattle.header.proofs.Over.{over-none, none-over}
-use Rattle.header.proofs.Total.{plane-room}
 use Rattle.packing.specs.Planes.{allBelow, enough, planesFor, allHeld}
 use Rattle.packing.specs.Workings.Words.{wordOf, numberOf, blockStart, Gathered, countOf, countAt}
 use Rattle.packing.proofs.All.{all-at, all-by}
 use Rattle.packing.proofs.Counting.{reach-yes}
 use Rattle.packing.proofs.FlatPlanes.{zero-holds}
-use Rattle.packing.proofs.Needed.{count-same}
+use Rattle.packing.proofs.Needed.{word-at, count-same}
 
 -- a word of 23 digits is that of a coefficient of 23 digits
 word-held : (q : ℤ) → wordOf q < 2 ^ placesMost → holds placesMost q ≡ true
@@ -63,7 +62,7 @@ module _ (sh : Shape) (ok : accepted sh ≡ true) (qs : List ℤ) (full : length
       let low : n ≤ placesMost = rw (lt-ltb k (layers sh) hk) at few in
       let here = holds-yes n (numberOf w) (all-at (λ i. holds n (numberOf (getD ws (blockStart sh k + i) 0))) (layerSize sh k) (first-is t (suc placesMost) 0 (omega arith)) i hi) in
       let reach = reach-yes placesMost w (holds-up n placesMost (numberOf w) low here) in
-      let e : w ≡ wordOf (at qs (pointOf sh k i)) = g .word k i hk (omega (arith, plane-room sh k)) ∙ rw (lt-ltb i (layerSize sh k) hi) in
+      let e = word-at sh qs ws g k i hk hi in
       word-held (at qs (pointOf sh k i)) (omega (arith, reach .high, range-23))
 
   all-held : ((k : ℕ) → k < layersMost → countAt sh ws k ≤ placesMost) → (p : ℕ) → holds placesMost (at qs p) ≡ true

@@ -2,6 +2,7 @@ pub mod All
 pub mod Blocks
 pub mod Runs
 pub mod Packing
+pub mod RowBytes
 pub mod BodyOrder
 pub mod HeldLayers
 pub mod FlatPlanes
@@ -9,4 +10,6 @@ pub mod Gathers
 pub mod Counting
 pub mod Needed
 pub mod HeldWords
+pub mod Measured
+pub mod Losses
 pub mod Cards

@@ -2,15 +2,17 @@
 use mathlib.Core.Path.{_≡_, refl, sym, ap, _∙_, subst}
 use mathlib.Core.Bool.{Bool, true}
 use mathlib.Core.List.{List}
-use Prim.Native.Nat.{ℕ, suc, _+_, _<_}
+use Prim.Native.Nat.{ℕ, suc, _+_, _^_, _<_}
 use native.Mathlib.Omega.{arith}
 use borrow.Author.Tests.{lt-ltb, ltb-true}
 use lib.Dec.{ltb}
 use lib.IntN.{ℤ, pos, natAbs, _+ℤ_}
 use lib.ListN.{getD}
+use Rattle.integers.specs.Distance.{up, down}
 use Rattle.integers.proofs.Bools.{cond-ap}
 use Rattle.integers.proofs.Diff.{#, lit, _⊞_, _⊖_}
-use Rattle.integers.proofs.Order.{le-by, eq-by, nonneg-is}
+use Rattle.integers.proofs.Order.{eq-by}
+use Rattle.integers.proofs.Machine.{unsigned-is}
 use Rattle.digits.specs.Digits.{holds, firstFrom}
 use Rattle.digits.proofs.Firsts.{first-le, first-passes, first-least, first-at}
 use Rattle.digits.proofs.Range.{Holds, holds-yes, holds-by, range-23}
@@ -29,22 +31,26 @@ use Rattle.packing.proofs.HeldLayers.{enough-yes, enough-by}
 
 -- ---- a coefficient and its word
 module _ (q : ℤ) (h : holds placesMost q ≡ true) where
+  unsigned : natAbs (q +ℤ pos offset) + down q ≡ up q + offset
+  unsigned = omega (arith, unsigned-is (# q ⊞ lit offset) (omega (arith, holds-yes placesMost q h, range-23)))
+
   pub word-number : numberOf (wordOf q) ≡ q
   unfolding wordOf
   word-number =
-      let u = natAbs (q +ℤ pos offset) in
-      let k = nonneg-is (q +ℤ pos offset) (le-by (lit 0) (# q ⊞ lit offset) (omega (arith, holds-yes placesMost q h, range-23))) in
-      let s = (# q ⊞ lit offset) .is in
-      rw h (eq-by (lit u ⊖ lit offset) (# q) (omega arith))
+      rw h (eq-by (lit (natAbs (q +ℤ pos offset)) ⊖ lit offset) (# q) (omega (arith, unsigned)))
+
+  pub word-small : wordOf q < 2 ^ placesMost
+  unfolding wordOf
+  word-small = rw h (omega (arith, holds-yes placesMost q h, range-23, unsigned))
+
+-- a layer's word is that of its point's coefficient
+pub word-at : (sh : Shape) (qs : List ℤ) (ws : List ℕ) → Gathered sh qs ws → (k i : ℕ) → k < layers sh → i < layerSize sh k → getD ws (blockStart sh k + i) 0 ≡ wordOf (at qs (pointOf sh k i))
+word-at sh qs ws g k i hk hi = g .word k i hk (omega (arith, plane-room sh k)) ∙ rw (lt-ltb i (layerSize sh k) hi)
 
 module _ (sh : Shape) (qs : List ℤ) (ws : List ℕ) (g : Gathered sh qs ws) (held : (p : ℕ) → holds placesMost (at qs p) ≡ true) where
-  -- ---- the number of a layer's word is its point's coefficient
+  -- ---- and its number is the coefficient
   pub number-at : (k i : ℕ) → k < layers sh → i < layerSize sh k → numberOf (getD ws (blockStart sh k + i) 0) ≡ at qs (pointOf sh k i)
-  number-at k i hk hi =
-      let e : getD ws (blockStart sh k + i) 0 ≡ wordOf (at qs (pointOf sh k i)) =
-      g .word k i hk (omega (arith, plane-room sh k)) ∙ rw (lt-ltb i (layerSize sh k) hi) in
-      ap numberOf e
-      ∙ word-number (at qs (pointOf sh k i)) (held (pointOf sh k i))
+  number-at k i hk hi = ap numberOf (word-at sh qs ws g k i hk hi) ∙ word-number (at qs (pointOf sh k i)) (held (pointOf sh k i))
 
   -- ---- so the tests are the same
   test-same : (k : ℕ) → k < layers sh → (d : ℕ) → allBelow (λ i. holds d (numberOf (getD ws (blockStart sh k + i) 0))) (layerSize sh k) ≡ enough sh qs k d

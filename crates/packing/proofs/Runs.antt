@@ -5,8 +5,9 @@ use mathlib.Core.Logic.{_⊎_, inl, inr, ⊎-elim}
 use Prim.Native.Nat.{ℕ, zero, suc, _+_, _<_, _≤_}
 use native.Mathlib.Decide.{ℕ-discrete}
 use native.Mathlib.Omega.{arith}
-use lib.ListN.{length, getD, set}
+use lib.ListN.{length, getD, set, take, replicate}
 use lib.Seq.{sets, length-sets, getD-set-same, getD-set-other}
+use Rattle.text.proofs.Padding.{padded-put, padded-take}
 use Rattle.sheet.specs.Lists.{tabulate}
 use Rattle.sheet.proofs.Lists.{tabulate-same}
 
@@ -56,3 +57,7 @@ module _ {A : Type 0} where
       ap (λ (x : List A). getD x j d) (sets-more n l s f)
       ∙ getD-set-other (sets l s (tabulate n f)) (s + n) j (f n) d (λ e. ⊎-elim (λ (a : j < s). let z : ⊥ = omega arith in z) (λ (b : s + suc n ≤ j). let z : ⊥ = omega arith in z) h)
       ∙ sets-out n l s f d j (⊎-elim (λ (a : j < s). inl a) (λ (b : s + suc n ≤ j). inr (omega arith)) h)
+
+-- what was stored at the front of zeros is read there
+pub zeros-read : (n : ℕ) (vs : List ℕ) → length vs ≤ n → take (length vs) (sets (replicate n 0) 0 vs) ≡ vs
+zeros-read n vs h = ap (take (length vs)) (padded-put n vs h) ∙ padded-take n vs

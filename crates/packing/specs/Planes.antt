@@ -1,18 +1,20 @@
 -- The planes of coefficients, and the card that they make (docs/CARD.md, "Planes" and "The card").
 use mathlib.Core.Bool.{Bool, true, cond, not, _&&_, _||_}
 use mathlib.Core.List.{List, _++_}
+use mathlib.Core.Option.{some}
 use Prim.Native.Nat.{ℕ, zero, suc, _+_, _*_}
 use lib.Dec.{ltb}
 use lib.IntN.{ℤ}
 use lib.ListN.{length}
-use Rattle.digits.specs.Digits.{digitAt, holds, firstFrom}
+use Rattle.digits.specs.Digits.{digitAt, holds, firstFrom, away}
 use Rattle.sheet.specs.declared.Shape.{Shape}
 use Rattle.sheet.specs.declared.Curve.{Curve}
 use Rattle.sheet.specs.Limits.{layersMost}
-use Rattle.sheet.specs.Lists.{at, tabulate}
+use Rattle.sheet.specs.Lists.{at, tabulate, largest}
 use Rattle.sheet.specs.Sheet.{points, layers, inLayer, layerSize, pointOf}
 use Rattle.header.specs.declared.Header.{Header}
 use Rattle.header.specs.Header.{placesMost, cellBytes, planeCells, cellsOf, headerText}
+use Rattle.header.specs.Losses.{laid}
 use Rattle.order.specs.CardOrder.{inOrder}
 
 -- ---- tests over the first n numbers
@@ -55,10 +57,20 @@ abbrev pub headerFor : Shape → Curve → ℕ → List ℤ → Header
 headerFor sh curve e qs =
     record { shape = sh; curve = curve; step = e; planes = countsFor sh qs; cells = cellsOf sh (countsFor sh qs) }
 
+-- ---- the losses of coefficients
+-- the largest distance met between the d low digits of layer k's coefficients and their middle
+unfoldable pub measuredLoss : Shape → List ℤ → ℕ → ℕ → ℕ
+measuredLoss sh qs k d = largest (λ i. away d (at qs (pointOf sh k i))) (layerSize sh k)
+
+-- for each layer in order, for d = 1 to P_k
+unfoldable pub lossesFor : Shape → List ℤ → List ℕ
+lossesFor sh qs = laid (measuredLoss sh qs) (planesFor sh qs) (layers sh)
+
+-- ---- the card
 -- do 23 digits hold every coefficient?
 unfoldable pub allHeld : List ℤ → Bool
 allHeld qs = allBelow (λ j. holds placesMost (at qs j)) (length qs)
 
--- the card of coefficients: the header's text, then the planes
+-- the card of coefficients: the header's text with the losses that were measured, then the planes
 unfoldable pub cardOf : Shape → Curve → ℕ → List ℤ → List ℕ
-cardOf sh curve e qs = headerText (headerFor sh curve e qs) ++ body (headerFor sh curve e qs) qs
+cardOf sh curve e qs = headerText (headerFor sh curve e qs) (some (lossesFor sh qs)) ++ body (headerFor sh curve e qs) qs

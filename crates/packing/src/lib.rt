@@ -1,5 +1,7 @@
-// The card of coefficients: their words in layer order, and the planes of the words behind the header's text.
+// The card of coefficients: their words in layer order, these turned into rows, and the planes of the rows behind the header's text.
+mod measuring;
 mod putting;
+mod rows;
 mod words;
 mod writing;
 

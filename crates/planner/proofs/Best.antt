@@ -39,29 +39,29 @@ module _ (h : Header) (allowed : List ℕ → Bool) (first second : List ℕ →
       (b .least ns (a .plan) (a .meets)) (a .least ms (b .plan) (b .meets))
 
 -- ---- by a limit
-module _ (h : Header) (long : length (h .planes) ≡ layersMost) (limit : ℕ) (above : h .step ≤ limit) where
+module _ (h : Header) (ls : List ℕ) (long : length (h .planes) ≡ layersMost) (limit : ℕ) (above : h .step ≤ limit) where
   all-plan : PlanOf h (h .planes)
   all-plan = record { long = long; within = λ k. le-refl (planesOf h k) }
 
-  pub by-limit-best : Best h (withinLimit h limit) (betterByLimit h) (bestByLimit h limit)
+  pub by-limit-best : Best h (withinLimit h ls limit) (betterByLimit h ls) (bestByLimit h ls limit)
   unfolding bestByLimit
   by-limit-best =
-      kept-best h (withinLimit h limit) (cellsIn h) (figureIn h) (h .planes) all-plan
-      (le-leb (figureIn h (h .planes)) limit (omega (arith, figure-all h)))
+      kept-best h (withinLimit h ls limit) (cellsIn h) (figureIn h ls) (h .planes) all-plan
+      (le-leb (figureIn h ls (h .planes)) limit (omega (arith, figure-all h ls)))
 
-  pub by-limit-only : (ns : List ℕ) → Best h (withinLimit h limit) (betterByLimit h) ns → ns ≡ bestByLimit h limit
-  by-limit-only ns b = best-unique h (withinLimit h limit) (cellsIn h) (figureIn h) ns (bestByLimit h limit) b by-limit-best
+  pub by-limit-only : (ns : List ℕ) → Best h (withinLimit h ls limit) (betterByLimit h ls) ns → ns ≡ bestByLimit h ls limit
+  by-limit-only ns b = best-unique h (withinLimit h ls limit) (cellsIn h) (figureIn h ls) ns (bestByLimit h ls limit) b by-limit-best
 
 -- ---- in so many cells
-module _ (h : Header) (most : ℕ) where
+module _ (h : Header) (ls : List ℕ) (most : ℕ) where
   none-plan : PlanOf h (replicate layersMost 0)
   none-plan = record { long = length-replicate {A = ℕ} layersMost 0; within = λ k. omega (arith, none-loaded k) }
 
-  pub by-cells-best : Best h (withinCells h most) (betterByCells h) (bestByCells h most)
+  pub by-cells-best : Best h (withinCells h most) (betterByCells h ls) (bestByCells h ls most)
   unfolding bestByCells
   by-cells-best =
-      kept-best h (withinCells h most) (figureIn h) (cellsIn h) (replicate layersMost 0) none-plan
+      kept-best h (withinCells h most) (figureIn h ls) (cellsIn h) (replicate layersMost 0) none-plan
       (le-leb (cellsIn h (replicate layersMost 0)) most (omega (arith, none-cells (h .shape))))
 
-  pub by-cells-only : (ns : List ℕ) → Best h (withinCells h most) (betterByCells h) ns → ns ≡ bestByCells h most
-  by-cells-only ns b = best-unique h (withinCells h most) (figureIn h) (cellsIn h) ns (bestByCells h most) b by-cells-best
+  pub by-cells-only : (ns : List ℕ) → Best h (withinCells h most) (betterByCells h ls) ns → ns ≡ bestByCells h ls most
+  by-cells-only ns b = best-unique h (withinCells h most) (figureIn h ls) (cellsIn h) ns (bestByCells h ls most) b by-cells-best

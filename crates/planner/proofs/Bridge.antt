@@ -11,6 +11,7 @@ use Rattle.header.proofs.Cells.{cells-places}
 use Rattle.header.proofs.WellFormed.{WellFormed}
 use Rattle.figure.specs.Figure.{figureOf}
 use Rattle.figure.specs.Workings.{carryOf, chargeOf}
+use Rattle.figure.proofs.Numbers.{Small}
 use Rattle.figure.proofs.Places as P
 use Rattle.planner.specs.Planning.{counts, cellsIn}
 use Rattle.planner.specs.Workings.Table.{Layers, layersOf, cells, none}
@@ -25,20 +26,20 @@ unfolding cells total
 cells-total L n zero = refl
 cells-total L n (suc k) = omega (arith, cells-total L n k)
 
-module _ {h : Header} (r : WellFormed h) where
-  pub cells-same : (ns : List ℕ) → cells (layersOf h) (counts ns) layersMost ≡ cellsIn h ns
-  cells-same ns = cells-total (layersOf h) (counts ns) layersMost ∙ cells-places (h .shape) (r .shape) ns
+module _ {h : Header} (r : WellFormed h) (ls : List ℕ) where
+  pub cells-same : (ns : List ℕ) → cells (layersOf h ls) (counts ns) layersMost ≡ cellsIn h ns
+  cells-same ns = cells-total (layersOf h ls) (counts ns) layersMost ∙ cells-places (h .shape) (r .shape) ns
 
   -- what stands, whatever is loaded
   module _ (n : ℕ → ℕ) where
-    stands : (k : ℕ) → standing (layersOf h) n k ≡ P.standing h n k
+    stands : (k : ℕ) → standing (layersOf h ls) n k ≡ P.standing h ls n k
     unfolding standing P.standing
     stands zero = refl
-    stands (suc k) = ap (λ (m : ℕ). carryOf h k m + chargeOf h k (n k)) (stands k)
+    stands (suc k) = ap (λ (m : ℕ). carryOf h k m + chargeOf h ls k (n k)) (stands k)
 
-    pub figure-same : h .step + standing (layersOf h) n layersMost ≡ figureOf h n
-    figure-same = ap (λ (m : ℕ). h .step + m) (stands layersMost) ∙ P.figure-same r n
+    pub figure-same : h .step + standing (layersOf h ls) n layersMost ≡ figureOf h ls n
+    figure-same = ap (λ (m : ℕ). h .step + m) (stands layersMost) ∙ P.figure-same r ls n
 
     -- far below
-    pub below-none : standing (layersOf h) n layersMost < none
-    below-none = omega (arith, stands layersMost, P.below r n layersMost (le-refl layersMost))
+    pub below-none : Small ls → standing (layersOf h ls) n layersMost < none
+    below-none small = omega (arith, stands layersMost, P.below r ls n small layersMost (le-refl layersMost))

@@ -1,5 +1,6 @@
 -- The table's entries. The least of some numbers is `none` or one of them, and so is an entry; for more cells than all planes of the layers have it is `none`, since no choice of planes leaves a smaller rest and a carry takes nothing away.
 use mathlib.Core.Bool.{true}
+use mathlib.Core.List.{List}
 use mathlib.Core.Path.{_≡_, refl, ap, _∙_}
 use Prim.Native.Nat.{ℕ, zero, suc, _+_, _-_, _*_, _≤_, _<_, min}
 use native.Mathlib.Nat.{le-refl, mul-le-mul-right, le-of-suc-le-suc, not-suc-le-zero}
@@ -133,12 +134,12 @@ reach-rises L j k l =
     omega (arith, cells-total L (L .planes) j, cells-total L (L .planes) k, total-rises (λ (i : ℕ). L .planes i * L .span i) j k l)
 
 -- ---- of a header
-pub reach-most : (h : Header) → wellFormed h ≡ true → (k : ℕ) → k ≤ layersMost → reach (layersOf h) k ≤ cellsMost
-reach-most h ok k l =
+pub reach-most : (h : Header) (ls : List ℕ) → wellFormed h ≡ true → (k : ℕ) → k ≤ layersMost → reach (layersOf h ls) k ≤ cellsMost
+reach-most h ls ok k l =
     let r = right-yes h ok in
     omega (
       arith,
-      reach-rises (layersOf h) k layersMost l,
-      cells-same r (h .planes),
+      reach-rises (layersOf h ls) k layersMost l,
+      cells-same r ls (h .planes),
       cells-most (h .shape) (r .shape) (h .planes) (λ j i. counts-few r j (omega (arith, layers-few r))),
     )

@@ -12,10 +12,8 @@ use Rattle.header.specs.declared.Header.{Header}
 use Rattle.header.specs.Header.{planesOf}
 use Rattle.header.specs.Plan.{layersMost}
 use Rattle.header.specs.Opening.{wellFormed}
-use Rattle.header.proofs.Over.{none-over}
 use Rattle.header.proofs.WellFormed.{WellFormed, right-yes}
-use Rattle.figure.specs.Workings.{boundOf}
-use Rattle.figure.proofs.FigureCall.{bound-right}
+use Rattle.figure.proofs.Numbers.{Small}
 use Rattle.figure.proofs.Figures.{figure-all}
 use Rattle.planner.specs.Planning.{counts, PlanOf, cellsIn, figureIn, withinLimit, withinCells, betterByLimit, betterByCells, bestByLimit, bestByCells}
 use Rattle.planner.proofs.Best.{Best, by-limit-only, by-cells-only}
@@ -27,84 +25,92 @@ use Rattle.planner.proofs.Entries.{no-cells, reach-all, reach-most}
 use Rattle.planner.proofs.Orders.{not-better}
 
 -- the plan ns is the one asked for, and has so many cells and this figure
-pub record Found (h : Header) (asked ns : List ℕ) (size figure : ℕ) : Type 0 where
+pub record Found (h : Header) (ls asked ns : List ℕ) (size figure : ℕ) : Type 0 where
   pub same : ns ≡ asked
   pub size-is : size ≡ cellsIn h asked
-  pub figure-is : figure ≡ figureIn h asked
+  pub figure-is : figure ≡ figureIn h ls asked
 
-module _ (h : Header) (ok : wellFormed h ≡ true) where
+module _ (h : Header) (ok : wellFormed h ≡ true) (ls : List ℕ) (small : Small ls) where
   abbrev entry : ℕ → ℕ
-  entry = best (layersOf h) layersMost
+  entry = best (layersOf h ls) layersMost
 
   abbrev taken : List ℕ → ℕ
-  taken ns = cells (layersOf h) (counts ns) layersMost
+  taken ns = cells (layersOf h ls) (counts ns) layersMost
 
   abbrev left : List ℕ → ℕ
-  left ns = standing (layersOf h) (counts ns) layersMost
+  left ns = standing (layersOf h ls) (counts ns) layersMost
 
   is-well-formed : WellFormed h
   is-well-formed = right-yes h ok
 
   -- ---- some entry is reached
   -- all planes stand at 0
-  full-reached : entry (reach (layersOf h) layersMost) ≡ 0
+  full-reached : entry (reach (layersOf h ls) layersMost) ≡ 0
   full-reached =
       omega (
         arith,
-        lower (layersOf h) (header-rising h) (planesOf h) layersMost (λ k _. le-refl (planesOf h k)),
-        figure-same is-well-formed (planesOf h),
-        figure-all h,
+        lower (layersOf h ls) (header-rising h ls) (planesOf h) layersMost (λ k _. le-refl (planesOf h k)),
+        figure-same is-well-formed ls (planesOf h),
+        figure-all h ls,
       )
 
   limit-within : (room size : ℕ) → FirstWithin entry room size → entry size ≤ room
   limit-within room size f =
-      f .within (reach (layersOf h) layersMost) (omega (arith, reach-most h ok layersMost (le-refl layersMost))) (omega (arith, full-reached))
+      f .within (reach (layersOf h ls) layersMost) (omega (arith, reach-most h ls ok layersMost (le-refl layersMost))) (omega (arith, full-reached))
 
-  pub limit-reached : (limit room size : ℕ) → Room (h .step) limit room → FirstWithin (best (layersOf h) layersMost) room size → best (layersOf h) layersMost size < none
+  pub limit-reached : (limit room size : ℕ) → Room (h .step) limit room → FirstWithin (best (layersOf h ls) layersMost) room size → best (layersOf h ls) layersMost size < none
   limit-reached limit room size m f = omega (arith, m .below, limit-within room size f)
 
   -- no planes take no cells
-  pub cells-reached : (top size : ℕ) → LeastWithin (best (layersOf h) layersMost) top size → best (layersOf h) layersMost size < none
+  pub cells-reached : (top size : ℕ) → LeastWithin (best (layersOf h ls) layersMost) top size → best (layersOf h ls) layersMost size < none
   cells-reached top size f =
       omega (
         arith,
         f .least 0 zero-le,
-        ap entry (no-cells (layersOf h) layersMost),
-        lower (layersOf h) (header-rising h) (λ _. 0) layersMost (λ _ _. zero-le),
-        below-none is-well-formed (λ _. 0),
+        ap entry (no-cells (layersOf h ls) layersMost),
+        lower (layersOf h ls) (header-rising h ls) (λ _. 0) layersMost (λ _ _. zero-le),
+        below-none is-well-formed ls (λ _. 0) small,
       )
 
   -- ---- what the law says of the card's cells and figure
   module _ (ns ms : List ℕ) where
     same-taken : cellsIn h ms ≡ cellsIn h ns → taken ms ≡ taken ns
-    same-taken e = omega (arith, cells-same is-well-formed ms, cells-same is-well-formed ns)
+    same-taken e = omega (arith, cells-same is-well-formed ls ms, cells-same is-well-formed ls ns)
 
-    same-left : figureIn h ms ≡ figureIn h ns → left ms ≡ left ns
-    same-left e = omega (arith, figure-same is-well-formed (counts ms), figure-same is-well-formed (counts ns))
+    same-left : figureIn h ls ms ≡ figureIn h ls ns → left ms ≡ left ns
+    same-left e = omega (arith, figure-same is-well-formed ls (counts ms), figure-same is-well-formed ls (counts ns))
 
-    none-by-limit : NoWorse (λ n. cells (layersOf h) n layersMost) (λ n. standing (layersOf h) n layersMost) layersMost (counts ns) (counts ms)
-        → betterByLimit h ms ns ≡ false
+    none-by-limit : NoWorse (λ n. cells (layersOf h ls) n layersMost) (λ n. standing (layersOf h ls) n layersMost) layersMost (counts ns) (counts ms)
+        → betterByLimit h ls ms ns ≡ false
     none-by-limit w =
-        not-better (cellsIn h) (figureIn h) ms ns
-        (omega (arith, w .one, cells-same is-well-formed ms, cells-same is-well-formed ns))
-        (λ e. omega (arith, w .two (same-taken e), figure-same is-well-formed (counts ms), figure-same is-well-formed (counts ns)))
+        not-better (cellsIn h) (figureIn h ls) ms ns
+        (omega (arith, w .one, cells-same is-well-formed ls ms, cells-same is-well-formed ls ns))
+        (λ e. omega (arith, w .two (same-taken e), figure-same is-well-formed ls (counts ms), figure-same is-well-formed ls (counts ns)))
         (λ e d. w .tie (same-taken e) (same-left d))
 
-    none-by-cells : NoWorse (λ n. standing (layersOf h) n layersMost) (λ n. cells (layersOf h) n layersMost) layersMost (counts ns) (counts ms)
-        → betterByCells h ms ns ≡ false
+    none-by-cells : NoWorse (λ n. standing (layersOf h ls) n layersMost) (λ n. cells (layersOf h ls) n layersMost) layersMost (counts ns) (counts ms)
+        → betterByCells h ls ms ns ≡ false
     none-by-cells w =
-        not-better (figureIn h) (cellsIn h) ms ns
-        (omega (arith, w .one, figure-same is-well-formed (counts ms), figure-same is-well-formed (counts ns)))
-        (λ e. omega (arith, w .two (same-left e), cells-same is-well-formed ms, cells-same is-well-formed ns))
+        not-better (figureIn h ls) (cellsIn h) ms ns
+        (omega (arith, w .one, figure-same is-well-formed ls (counts ms), figure-same is-well-formed ls (counts ns)))
+        (λ e. omega (arith, w .two (same-left e), cells-same is-well-formed ls ms, cells-same is-well-formed ls ns))
         (λ e d. w .tie (same-left e) (same-taken d))
 
   -- ---- a plan that is read off
-  module _ (size : ℕ) (ns : List ℕ) (traced : Traced (layersOf h) layersMost size (counts ns)) where
+  module _ (size : ℕ) (ns : List ℕ) (traced : Traced (layersOf h ls) layersMost size (counts ns)) where
     size-own : size ≡ cellsIn h ns
-    size-own = omega (arith, traced-cells (layersOf h) (header-rising h) (counts ns) layersMost size traced, cells-same is-well-formed ns)
+    size-own = omega (arith, traced-cells (layersOf h ls) (header-rising h ls) (counts ns) layersMost size traced, cells-same is-well-formed ls ns)
 
-    figure-own : h .step + entry size ≡ figureIn h ns
-    figure-own = omega (arith, traced-standing (layersOf h) (header-rising h) (counts ns) layersMost size traced, figure-same is-well-formed (counts ns))
+    figure-own : h .step + entry size ≡ figureIn h ls ns
+    figure-own = omega (arith, traced-standing (layersOf h ls) (header-rising h ls) (counts ns) layersMost size traced, figure-same is-well-formed ls (counts ns))
+
+    found-as : (asked : List ℕ) → ns ≡ asked → Found h ls asked ns size (h .step + best (layersOf h ls) layersMost size)
+    found-as asked e =
+        record {
+          same = e;
+          size-is = size-own ∙ ap (cellsIn h) e;
+          figure-is = figure-own ∙ ap (figureIn h ls) e;
+        }
 
     module _ (long : length ns ≡ layersMost) where
       plan-of : PlanOf h ns
@@ -112,55 +118,46 @@ module _ (h : Header) (ok : wellFormed h ≡ true) where
           record {
             long = long;
             within = λ k. elim (decLt k layersMost) [
-              | yes l ↦ traced-plan (layersOf h) (header-rising h) (counts ns) layersMost size traced k l
+              | yes l ↦ traced-plan (layersOf h ls) (header-rising h ls) (counts ns) layersMost size traced k l
               | no l ↦ omega (arith, List·getD-eq-default ns 0 {n = k} (omega arith))
             ];
           }
 
-      -- and the figure that is told of it is its own
-      found-as : (asked : List ℕ) → ns ≡ asked → Found h asked ns size (boundOf h (record { planes = ns }) .figure)
-      found-as asked e =
-          record {
-            same = e;
-            size-is = size-own ∙ ap (cellsIn h) e;
-            figure-is = bound-right h (record { planes = ns }) ok (none-over (planesOf h) (counts ns) (λ k _. plan-of .within k)) ∙ ap (figureIn h) e;
-          }
-
-      limit-best : (limit room : ℕ) → Room (h .step) limit room → FirstWithin entry room size → Best h (withinLimit h limit) (betterByLimit h) ns
+      limit-best : (limit room : ℕ) → Room (h .step) limit room → FirstWithin entry room size → Best h (withinLimit h ls limit) (betterByLimit h ls) ns
       limit-best limit room m f =
           record {
             plan = plan-of;
-            meets = le-leb (figureIn h ns) limit (omega (arith, figure-own, limit-within room size f, m .meets));
+            meets = le-leb (figureIn h ls ns) limit (omega (arith, figure-own, limit-within room size f, m .meets));
             least = λ ms p a.
                 none-by-limit ns ms
-                (least-cells (layersOf h) (header-rising h) layersMost size (counts ns) traced room (f .above) (counts ms) (λ k _. p .within k)
-                (m .most (left ms) (omega (arith, figure-same is-well-formed (counts ms), leb-true (figureIn h ms) limit a)) (below-none is-well-formed (counts ms))));
+                (least-cells (layersOf h ls) (header-rising h ls) layersMost size (counts ns) traced room (f .above) (counts ms) (λ k _. p .within k)
+                (m .most (left ms) (omega (arith, figure-same is-well-formed ls (counts ms), leb-true (figureIn h ls ms) limit a)) (below-none is-well-formed ls (counts ms) small)));
           }
 
-      cells-best : (most top : ℕ) → RowEnd most top → LeastWithin entry top size → Best h (withinCells h most) (betterByCells h) ns
+      cells-best : (most top : ℕ) → RowEnd most top → LeastWithin entry top size → Best h (withinCells h most) (betterByCells h ls) ns
       cells-best most top m f =
           record {
             plan = plan-of;
             meets = le-leb (cellsIn h ns) most (omega (arith, size-own, f .inside, m .meets));
             least = λ ms p a.
                 none-by-cells ns ms
-                (least-standing (layersOf h) (header-rising h) layersMost size (counts ns) traced top (f .before) (f .least) (counts ms) (λ k _. p .within k)
-                (m .last (taken ms) (omega (arith, cells-same is-well-formed ms, leb-true (cellsIn h ms) most a)) (row-has ms p)));
+                (least-standing (layersOf h ls) (header-rising h ls) layersMost size (counts ns) traced top (f .before) (f .least) (counts ms) (λ k _. p .within k)
+                (m .last (taken ms) (omega (arith, cells-same is-well-formed ls ms, leb-true (cellsIn h ms) most a)) (row-has ms p)));
           }
         where
           row-has : (ms : List ℕ) → PlanOf h ms → taken ms < rowLength
-          row-has ms p = omega (arith, reach-all (layersOf h) (counts ms) (p .within) layersMost, reach-most h ok layersMost (le-refl layersMost))
+          row-has ms p = omega (arith, reach-all (layersOf h ls) (counts ms) (p .within) layersMost, reach-most h ls ok layersMost (le-refl layersMost))
 
   -- ---- THE ANSWERS
   module _ (long : length (h .planes) ≡ layersMost) where
-    pub by-limit : (limit room size : ℕ) (ns : List ℕ) → h .step ≤ limit → Room (h .step) limit room → FirstWithin (best (layersOf h) layersMost) room size
-        → Traced (layersOf h) layersMost size (counts ns) → length ns ≡ layersMost
-        → Found h (bestByLimit h limit) ns size (boundOf h (record { planes = ns }) .figure)
+    pub by-limit : (limit room size : ℕ) (ns : List ℕ) → h .step ≤ limit → Room (h .step) limit room → FirstWithin (best (layersOf h ls) layersMost) room size
+        → Traced (layersOf h ls) layersMost size (counts ns) → length ns ≡ layersMost
+        → Found h ls (bestByLimit h ls limit) ns size (h .step + best (layersOf h ls) layersMost size)
     by-limit limit room size ns l m f t ln =
-        found-as size ns t ln (bestByLimit h limit) (by-limit-only h long limit l ns (limit-best size ns t ln limit room m f))
+        found-as size ns t (bestByLimit h ls limit) (by-limit-only h ls long limit l ns (limit-best size ns t ln limit room m f))
 
-    pub by-cells : (most top size : ℕ) (ns : List ℕ) → RowEnd most top → LeastWithin (best (layersOf h) layersMost) top size
-        → Traced (layersOf h) layersMost size (counts ns) → length ns ≡ layersMost
-        → Found h (bestByCells h most) ns size (boundOf h (record { planes = ns }) .figure)
+    pub by-cells : (most top size : ℕ) (ns : List ℕ) → RowEnd most top → LeastWithin (best (layersOf h ls) layersMost) top size
+        → Traced (layersOf h ls) layersMost size (counts ns) → length ns ≡ layersMost
+        → Found h ls (bestByCells h ls most) ns size (h .step + best (layersOf h ls) layersMost size)
     by-cells most top size ns m f t ln =
-        found-as size ns t ln (bestByCells h most) (by-cells-only h most ns (cells-best size ns t ln most top m f))
+        found-as size ns t (bestByCells h ls most) (by-cells-only h ls most ns (cells-best size ns t ln most top m f))

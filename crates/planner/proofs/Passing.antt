@@ -14,16 +14,9 @@ use Rattle.header.specs.Header.{planesOf}
 use Rattle.header.specs.Workings.{cellsMost, cellsAt}
 use Rattle.header.specs.Plan.{layersMost}
 use Rattle.header.specs.Opening.{wellFormed}
-use Rattle.planner.specs.Workings.Table.{Layers, layersOf, Tried, cells, reach, rowLength, leastOf, choice, best}
+use Rattle.planner.specs.Workings.Table.{Layers, layersOf, Tried, Passed, cells, reach, rowLength, leastOf, choice, best}
 use Rattle.planner.proofs.RisingCarry.{Rising, carry-up}
 use Rattle.planner.proofs.Entries.{least-suc, least-most, choice-fits, choice-over, best-none, reach-most}
-
--- the first c entries of the pass are done: those at `to` on, f b being offered to the one at place b
-pub record Passed (f : ℕ → ℕ) (to : ℕ) (t₀ t : List ℕ) (c : ℕ) : Type 0 where
-  pub long : length t ≡ length t₀
-  pub done : (b : ℕ) → b < c → getD t (to + b) 0 ≡ min (getD t₀ (to + b) 0) (f b)
-  pub below : (i : ℕ) → i < to → getD t i 0 ≡ getD t₀ i 0
-  pub above : (i : ℕ) → to + c ≤ i → getD t i 0 ≡ getD t₀ i 0
 
 module _ (f : ℕ → ℕ) (to : ℕ) (t₀ : List ℕ) where
   pub pass-none : Passed f to t₀ t₀ 0
@@ -115,7 +108,7 @@ module _ (L : Layers) (rising : Rising L) (k n : ℕ) (f : ℕ → ℕ) (is : (b
         }
 
 -- ---- of a header: these planes and all of the layers before have no more cells than a row has entries
-pub used-fits : (h : Header) → wellFormed h ≡ true → (k n : ℕ) → k < layersMost → n ≤ planesOf h k → n * cellsAt (h .shape) k + reach (layersOf h) k ≤ cellsMost
-used-fits h ok k n l few =
-    let all : reach (layersOf h) k + planesOf h k * cellsAt (h .shape) k ≤ cellsMost = unfold cells in (reach-most h ok (suc k) l) in
+pub used-fits : (h : Header) (ls : List ℕ) → wellFormed h ≡ true → (k n : ℕ) → k < layersMost → n ≤ planesOf h k → n * cellsAt (h .shape) k + reach (layersOf h ls) k ≤ cellsMost
+used-fits h ls ok k n l few =
+    let all : reach (layersOf h ls) k + planesOf h k * cellsAt (h .shape) k ≤ cellsMost = unfold cells in (reach-most h ls ok (suc k) l) in
     omega (arith, mul-le-mul-right (cellsAt (h .shape) k) few)

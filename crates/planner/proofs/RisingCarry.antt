@@ -1,4 +1,5 @@
 -- All that the table's law asks of the layers: a carry rises strictly. So it takes nothing away and tells different numbers apart. A header's carry rises by the figure's law.
+use mathlib.Core.List.{List}
 use mathlib.Core.Path.{_≡_, ap}
 use Prim.Native.Nat.{ℕ, zero, suc, _<_, _≤_, zero-le}
 use native.Mathlib.Nat.{le-refl}
@@ -34,5 +35,5 @@ module _ (L : Layers) (rising : Rising L) where
       ]
 
 -- ---- a header's
-pub header-rising : (h : Header) → Rising (layersOf h)
-header-rising = carry-rising
+pub header-rising : (h : Header) (ls : List ℕ) → Rising (layersOf h ls)
+header-rising h ls = carry-rising h

@@ -1,29 +1,32 @@
 -- The walk back through the rows, from the last layer: each layer takes the preferred count among those that give its entry, and the rest of the cells goes to the layers before it. Whatever those come to, the counts from k on stand.
+use mathlib.Core.Bool.{cond}
 use mathlib.Core.List.{List}
 use mathlib.Core.Path.{_≡_, refl, sym, ap, subst, _∙_}
 use Prim.Native.Nat.{ℕ, suc, _+_, _-_, _*_, _≤_, _<_}
 use native.Mathlib.Nat.{le-refl}
-use native.Mathlib.Decide.{decLt}
+use native.Mathlib.Decide.{decLe, decLt}
 use native.Mathlib.Omega.{arith}
-use borrow.Author.Tests.{ltb-true}
+use borrow.Author.Tests.{ltb-true, le-leb, lt-leb}
+use lib.Dec.{leb}
 use lib.ListN.{length, getD, set, length-set}
 use lib.Seq.{getD-set-same, getD-set-other}
 use Rattle.header.specs.Plan.{layersMost}
 use Rattle.planner.specs.Planning.{counts}
 use Rattle.planner.specs.Workings.Table.{Layers, Preferred, Traced, none, choice, best}
 use Rattle.planner.proofs.RisingCarry.{Rising}
-use Rattle.planner.proofs.Entries.{least-at, choice-fits, choice-within, choice-down, best-suc, best-start}
+use Rattle.planner.proofs.Entries.{least-at, choice-fits, choice-over, choice-within, choice-down, best-suc, best-start}
 
--- ---- a choice, from the entry m that it reads
-pub choice-read :
-    (L : Layers) (k c n used m v own : ℕ) → used ≡ n * L .span k → used ≤ c → m ≡ best L k (c - used)
-    → v ≡ L .carry k m → own ≡ L .charge k n → v + own ≡ choice L k (best L k) c n
-choice-read L k c n used m v own eu h em ev eo =
-    omega (
-      arith,
-      choice-fits L k (best L k) c n (omega arith),
-      ap (L .carry k) (em ∙ ap (λ (u : ℕ). best L k (c - u)) eu),
-    )
+-- ---- a choice, from what the entry that it reads is carried to
+pub choice-told :
+    (L : Layers) (k c n used v own : ℕ) → used ≡ n * L .span k → (used ≤ c → v ≡ L .carry k (best L k (c - used))) → own ≡ L .charge k n
+    → cond (leb used c) (v + own) none ≡ choice L k (best L k) c n
+choice-told L k c n used v own eu ev eo =
+    elim (decLe used c) [
+      | yes h ↦
+          rw (le-leb used c h)
+          (omega (arith, ev h, choice-fits L k (best L k) c n (omega arith), ap (λ (u : ℕ). L .carry k (best L k (c - u))) eu))
+      | no h ↦ rw (lt-leb used c (omega arith)) (omega (arith, choice-over L k (best L k) c n (omega arith)))
+    ]
 
 -- ---- the preferred count: none before n gives the entry
 module _ (L : Layers) (k c n : ℕ) (low : best L (suc k) c < none)

@@ -7,6 +7,7 @@ mod searching;
 mod table;
 
 use header::MOST_LAYERS;
+use header::MOST_LOSSES;
 use header::Plan;
 use header::Refusal;
 use searching::search_by_cells;
@@ -37,7 +38,8 @@ fn refused(refusal: Refusal) -> Planned
 pub fn plan_by_limit(bytes: &[u8], limit: u64) -> Planned
     ensures { λ r. ⌜ N.asPlanning r ≡ N.byLimit (now (bytes .entry)) limit ⌝ }
 {
-    let opened = header::open(bytes);
+    let mut table = [0u32; MOST_LOSSES];
+    let opened = header::open_with_losses(bytes, &mut table);
     let refusal = opened.refusal;
     match refusal {
         Refusal::Accepted => {
@@ -45,7 +47,8 @@ pub fn plan_by_limit(bytes: &[u8], limit: u64) -> Planned
             if limit < header.step {
                 return refused(Refusal::LimitBelowStep);
             }
-            search_by_limit(header, limit)
+            let told = opened.losses;
+            search_by_limit(header, &table[..told], limit)
         }
         _ => refused(refusal),
     }
@@ -55,12 +58,14 @@ pub fn plan_by_limit(bytes: &[u8], limit: u64) -> Planned
 pub fn plan_by_cells(bytes: &[u8], cells: u64) -> Planned
     ensures { λ r. ⌜ N.asPlanning r ≡ N.byCells (now (bytes .entry)) cells ⌝ }
 {
-    let opened = header::open(bytes);
+    let mut table = [0u32; MOST_LOSSES];
+    let opened = header::open_with_losses(bytes, &mut table);
     let refusal = opened.refusal;
     match refusal {
         Refusal::Accepted => {
             let header = opened.header;
-            search_by_cells(header, cells)
+            let told = opened.losses;
+            search_by_cells(header, &table[..told], cells)
         }
         _ => refused(refusal),
     }

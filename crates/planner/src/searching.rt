@@ -1,7 +1,8 @@
 // Searching the table's last row, and the walk back from there to a plan.
 ghost use mathlib.Core.Path.{_≡_};
-ghost use mathlib.Core.Bool.{true};
-ghost use Prim.Native.Nat.{suc, _+_, _*_, _<_, _≤_};
+ghost use mathlib.Core.Bool.{true, cond};
+ghost use Prim.Native.Nat.{ℕ, suc, _+_, _-_, _*_, _<_, _≤_};
+ghost use lib.Dec.{leb};
 ghost use lib.ListN.{length, getD};
 ghost use Rattle.header.specs.Refusals as R;
 ghost use Rattle.header.specs.Header as Hd;
@@ -16,6 +17,7 @@ use crate::table::NONE;
 use crate::table::ROW;
 use crate::table::TABLE;
 use crate::table::fill;
+use crate::table::firsts_of;
 use figure::Rule;
 use header::Header;
 use header::MOST_CELLS;
@@ -72,32 +74,39 @@ fn least_within(t: &[u64], top: usize) -> usize
     at
 }
 
-// Where the first k + 1 layers stand in c cells when layer k takes n planes and the layers before it stand as low as they can in the rest.
-fn choice_at(t: &[u64], header: Header, k: usize, rule: Rule, span: u64, c: usize, n: u64) -> u64
-    requires { ⌜ (O.wellFormed header ≡ true) × (k < layersMost) × (rule ≡ Wk.ruleOf header k) × (span ≡ W.cellsAt (header .shape) k) × (c < T.rowLength) × (n ≤ Hd.planesOf header k) ⌝ }
-    requires { ⌜ T.Rows (T.layersOf header) (now t) layersMost ⌝ }
-    ensures { λ r. ⌜ r ≡ T.choice (T.layersOf header) k (T.best (T.layersOf header) k) c n ⌝ }
+// Where the first k + 1 layers stand in c cells when layer k takes `used` of them and adds `own`, and the layers before it stand as low as they can in the rest.
+fn choice_at(t: &[u64], k: usize, rule: Rule, c: usize, used: usize, own: u64) -> u64
+    requires { ⌜ (k < layersMost) × (c < T.rowLength) × (length (now t) ≡ T.tableLength) × (own ≤ T.none) × ((b : ℕ) → b ≤ c → getD (now t) (k * T.rowLength + b) 0 ≤ T.none) ⌝ }
+    ensures { λ r. ⌜ r ≡ cond (leb used c) (Wk.carriedIn rule (getD (now (t .entry)) (k * T.rowLength + (c - used)) 0) + own) T.none ⌝ }
 {
-    let used = (n * span) as usize;
     if c < used {
         return NONE;
     }
-    figure::carried(rule, t[k * ROW + (c - used)]) + figure::charge(header, k, n)
+    figure::carried(rule, t[k * ROW + (c - used)]) + own
 }
 
 // The preferred count of layer k's planes among those that give the least that the first k + 1 layers can stand at in c cells.
-fn preferred(t: &[u64], header: Header, k: usize, span: u64, c: usize) -> u64
-    requires { ⌜ (O.wellFormed header ≡ true) × (k < layersMost) × (span ≡ W.cellsAt (header .shape) k) × (c < T.rowLength) ⌝ }
-    requires { ⌜ T.Rows (T.layersOf header) (now t) layersMost ⌝ }
-    requires { ⌜ T.best (T.layersOf header) (suc k) c < T.none ⌝ }
-    ensures { λ r. ⌜ T.Preferred (T.layersOf header) k c r ⌝ }
+fn preferred(
+    t: &[u64],
+    header: Header,
+    losses: &[u32],
+    k: usize,
+    first: usize,
+    span: u64,
+    c: usize,
+) -> u64
+    requires { ⌜ (O.wellFormed header ≡ true) × (k < layersMost) × (first ≡ Hd.total (Hd.planesOf header) k) × (span ≡ W.cellsAt (header .shape) k) × (c < T.rowLength) ⌝ }
+    requires { ⌜ T.Rows (T.layersOf header (now losses)) (now t) layersMost ⌝ }
+    requires { ⌜ T.best (T.layersOf header (now losses)) (suc k) c < T.none ⌝ }
+    ensures { λ r. ⌜ T.Preferred (T.layersOf header (now (losses .entry))) k c r ⌝ }
 {
     let counts = header.planes;
     let top = counts[k];
     let rule = figure::rule_of(header, k);
     let least = t[(k + 1) * ROW + c];
     for n in 0..top {
-        if choice_at(t, header, k, rule, span, c, n) == least {
+        let own = figure::charge(losses, first, top, n, header.step);
+        if choice_at(t, k, rule, c, (n * span) as usize, own) == least {
             return n;
         }
     }
@@ -105,65 +114,66 @@ fn preferred(t: &[u64], header: Header, k: usize, span: u64, c: usize) -> u64
 }
 
 // The plan that the table gives in exactly `size` cells, from the last layer back.
-fn trace(t: &[u64], header: Header, size: usize) -> [u64; MOST_LAYERS]
+fn trace(t: &[u64], header: Header, losses: &[u32], size: usize) -> [u64; MOST_LAYERS]
     requires { ⌜ (O.wellFormed header ≡ true) × (size < T.rowLength) ⌝ }
-    requires { ⌜ T.Rows (T.layersOf header) (now t) layersMost ⌝ }
-    requires { ⌜ T.best (T.layersOf header) layersMost size < T.none ⌝ }
-    ensures { λ r. ⌜ T.Traced (T.layersOf header) layersMost size (N.counts r) ⌝ }
+    requires { ⌜ T.Rows (T.layersOf header (now losses)) (now t) layersMost ⌝ }
+    requires { ⌜ T.best (T.layersOf header (now losses)) layersMost size < T.none ⌝ }
+    ensures { λ r. ⌜ T.Traced (T.layersOf header (now (losses .entry))) layersMost size (N.counts r) ⌝ }
 {
     let spans = header.spans();
+    let firsts = firsts_of(header);
     let mut planes = [0u64; MOST_LAYERS];
     let mut c = size;
     let mut k = MOST_LAYERS;
     while 0 < k {
         k -= 1;
-        let n = preferred(t, header, k, spans[k], c);
+        let n = preferred(t, header, losses, k, firsts[k], spans[k], c);
         planes[k] = n;
         c -= (n * spans[k]) as usize;
     }
     planes
 }
 
-// That plan, with its cells and its figure.
-fn plan_in(t: &[u64], header: Header, size: usize) -> Planned
+// That plan, with its cells and its figure, which is what it stands at and the step.
+fn plan_in(t: &[u64], header: Header, losses: &[u32], size: usize) -> Planned
     requires { ⌜ (O.wellFormed header ≡ true) × (size < T.rowLength) ⌝ }
-    requires { ⌜ T.Rows (T.layersOf header) (now t) layersMost ⌝ }
-    requires { ⌜ T.best (T.layersOf header) layersMost size < T.none ⌝ }
-    ensures { λ r. ⌜ T.Traced (T.layersOf header) layersMost size (N.counts (r .plan .planes)) ⌝ }
-    ensures { λ r. ⌜ (R.detailsOf (r .refusal) ≡ R.refusal 0 0 0) × (r .cells ≡ size) × (r .figure ≡ Wk.boundOf header (r .plan) .figure) ⌝ }
+    requires { ⌜ T.Rows (T.layersOf header (now losses)) (now t) layersMost ⌝ }
+    requires { ⌜ T.best (T.layersOf header (now losses)) layersMost size < T.none ⌝ }
+    ensures { λ r. ⌜ T.Traced (T.layersOf header (now (losses .entry))) layersMost size (N.counts (r .plan .planes)) ⌝ }
+    ensures { λ r. ⌜ (R.detailsOf (r .refusal) ≡ R.refusal 0 0 0) × (r .cells ≡ size) × (r .figure ≡ header .step + T.best (T.layersOf header (now (losses .entry))) layersMost size) ⌝ }
 {
-    let planes = trace(t, header, size);
-    let plan = Plan { planes };
+    let planes = trace(t, header, losses, size);
+    let figure = header.step + t[MOST_LAYERS * ROW + size];
     Planned {
         refusal: Refusal::Accepted,
-        plan,
+        plan: Plan { planes },
         cells: size as u64,
-        figure: figure::error_bound(header, plan).figure,
+        figure,
     }
 }
 
 // The best plan by a limit that is not below the step.
-pub(crate) fn search_by_limit(header: Header, limit: u64) -> Planned
+pub(crate) fn search_by_limit(header: Header, losses: &[u32], limit: u64) -> Planned
     requires { ⌜ (O.wellFormed header ≡ true) × (header .step ≤ limit) ⌝ }
-    ensures { λ r. ⌜ N.asPlanning r ≡ N.found header (N.bestByLimit header limit) ⌝ }
+    ensures { λ r. ⌜ N.asPlanning r ≡ N.found header (now (losses .entry)) (N.bestByLimit header (now (losses .entry)) limit) ⌝ }
 {
     let mut t = [NONE; TABLE];
     let mut held = [NONE; ROW];
-    fill(&mut t, &mut held, header);
+    fill(&mut t, &mut held, header, losses);
     let room = room_of(header.step, limit);
     let size = first_within(&t, room);
-    plan_in(&t, header, size)
+    plan_in(&t, header, losses, size)
 }
 
 // The best plan in at most so many cells.
-pub(crate) fn search_by_cells(header: Header, most: u64) -> Planned
+pub(crate) fn search_by_cells(header: Header, losses: &[u32], most: u64) -> Planned
     requires { ⌜ O.wellFormed header ≡ true ⌝ }
-    ensures { λ r. ⌜ N.asPlanning r ≡ N.found header (N.bestByCells header most) ⌝ }
+    ensures { λ r. ⌜ N.asPlanning r ≡ N.found header (now (losses .entry)) (N.bestByCells header (now (losses .entry)) most) ⌝ }
 {
     let mut t = [NONE; TABLE];
     let mut held = [NONE; ROW];
-    fill(&mut t, &mut held, header);
+    fill(&mut t, &mut held, header, losses);
     let top = row_end(most);
     let size = least_within(&t, top);
-    plan_in(&t, header, size)
+    plan_in(&t, header, losses, size)
 }

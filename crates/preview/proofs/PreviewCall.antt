@@ -16,6 +16,7 @@ use Rattle.header.specs.declared.Plan.{Plan}
 use Rattle.header.specs.Opening.{opening}
 use Rattle.header.proofs.OpenedSize.{opened-small}
 use Rattle.card.specs.Reading.{goodLengths}
+use Rattle.header.specs.Losses.{told}
 use Rattle.card.specs.Refining.{refineOpened, refining}
 use Rattle.card.proofs.ReadCall.{good-lengths}
 use Rattle.card.proofs.RefineCall.{refine-short, refine-unread}
@@ -28,6 +29,9 @@ module _ (qs vs ns : List ℤ) (bs : List ℕ) (plan : Plan) (k : ℕ) where
 
   abbrev long : ℕ
   long = opening bs .long
+
+  abbrev ls : List ℕ
+  ls = told (opening bs .losses)
 
   -- values as long as the coefficients pass the test of lengths where a third slice that is right does
   lengths-same : full (h .shape) ns ≡ true → length vs ≡ length qs → goodLengths qs ns h ≡ goodLengths qs vs h
@@ -42,9 +46,9 @@ module _ (qs vs ns : List ℤ) (bs : List ℕ) (plan : Plan) (k : ℕ) where
   copy-seen e =
       by (eqb (opening bs .refused .number) 0)
       (λ y. by (full (h .shape) ns)
-      (λ n. rw (y, n, refine-unread qs bs h long plan k vs ns (lengths-same n e))
-      (by (eqb (refineOpened qs vs bs h long plan k .refused .number) 0) (λ z. rw z) (λ z. rw z)))
-      (λ n. rw (y, n, refine-short qs bs h long plan k ns (and-no-right (full (h .shape) qs) (full (h .shape) ns) n))))
+      (λ n. rw (y, n, refine-unread qs bs h ls long plan k vs ns (lengths-same n e))
+      (by (eqb (refineOpened qs vs bs h ls long plan k .refused .number) 0) (λ z. rw z) (λ z. rw z)))
+      (λ n. rw (y, n, refine-short qs bs h ls long plan k ns (and-no-right (full (h .shape) qs) (full (h .shape) ns) n))))
       (λ y. rw y)
 
   -- coefficients and values that cannot both be right
@@ -55,6 +59,6 @@ module _ (qs vs ns : List ℤ) (bs : List ℕ) (plan : Plan) (k : ℕ) where
       not-yes (goodLengths qs vs h) (λ g. let l = good-lengths qs vs h g in wrong (omega (arith, l .0, opened-small bs .1)) (l .1 ∙ sym (l .0))) in
       by (eqb (opening bs .refused .number) 0)
       (λ y. by (full (h .shape) ns)
-      (λ n. rw (y, n, refine-short qs bs h long plan k vs none))
+      (λ n. rw (y, n, refine-short qs bs h ls long plan k vs none))
       (λ n. rw (y, n)))
       (λ y. rw y)

@@ -14,6 +14,7 @@ use Rattle.header.specs.declared.Plan.{Plan}
 use Rattle.header.specs.declared.Details.{Details}
 use Rattle.header.specs.Opening.{opening}
 use Rattle.card.specs.Reading.{Reading}
+use Rattle.header.specs.Losses.{told}
 use Rattle.card.specs.Refining.{refineOpened, refining}
 use Rattle.card.proofs.RefineCall.{refine-short}
 use Rattle.preview.specs.Previewing.{Previewing, notPreviewed, unless, seen, nextRefusal, previewing}
@@ -53,8 +54,8 @@ module _ (qs vs ns : List ℤ) (bs : List ℕ) (plan : Plan) (k : ℕ) where
       let h = opening bs .header in
       by (eqb (opening bs .refused .number) 0)
       (λ y. by (full (h .shape) ns)
-      (λ n. rw (y, n) (by (eqb (refineOpened qs vs bs h (opening bs .long) plan k .refused .number) 0) (λ z. rw z) (λ z. rw z)))
-      (λ n. rw (y, n, refine-short qs bs h (opening bs .long) plan k vs (and-no-right (full (h .shape) qs) (full (h .shape) vs) (short h n)))))
+      (λ n. rw (y, n) (by (eqb (refineOpened qs vs bs h (told (opening bs .losses)) (opening bs .long) plan k .refused .number) 0) (λ z. rw z) (λ z. rw z)))
+      (λ n. rw (y, n, refine-short qs bs h (told (opening bs .losses)) (opening bs .long) plan k vs (and-no-right (full (h .shape) qs) (full (h .shape) vs) (short h n)))))
       (λ y. rw y)
     where
       short : (h : Header) → full (h .shape) ns ≡ false → full (h .shape) vs ≡ false

@@ -35,7 +35,7 @@ unfolding pointsIn
 points-few sh = by (accepted sh) (λ y. rw y (accepted-yes sh y .small)) (λ n. rw n (omega arith))
 
 -- ---- the call
-module _ (qs vs : List ℤ) (page bs : List ℕ) (o : Opened) (e : O.asOpening o ≡ opening bs) where
+module _ (qs vs : List ℤ) (page bs : List ℕ) (o : Opened) (e : O.asOpening o (opening bs .losses) ≡ opening bs) where
   shape-is : o .header .shape ≡ opening bs .header .shape
   shape-is = ap (λ (x : Opening). x .header .shape) e
 

@@ -1,5 +1,6 @@
 pub mod Rises
 pub mod Lists
+pub mod Largest
 pub mod Parity
 pub mod Accepting
 pub mod LayerCounts

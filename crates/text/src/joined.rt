@@ -53,7 +53,7 @@ pub fn put_number(out: &mut [u8], at: usize, n: u64) -> usize
 }
 
 // Do numbers with commas between fit in so many bytes? What is left of the room is counted down, since the length of a very long list might wrap.
-fn joined_fits(numbers: &[u64], room: usize) -> bool
+pub fn joined_fits(numbers: &[u64], room: usize) -> bool
     ensures { λ r. ⌜ r ≡ leb (length (J.joined (now (numbers .entry)))) room ⌝ }
 {
     if numbers.len() == 0 {

@@ -9,6 +9,7 @@ ghost use Rattle.text.specs.Workings as W;
 mod joined;
 
 pub use joined::characters;
+pub use joined::joined_fits;
 pub use joined::put_joined;
 pub use joined::put_number;
 pub use joined::read_joined;

@@ -2,6 +2,7 @@
 
 use super::header::{open, print};
 use super::layers::{quantize, rebuild, rebuild_layers, Grid};
+use super::losses::Losses;
 use super::planes::{gather, is_fine, load, put, spread, OFFSET, WORDS};
 use super::{refused, Header, Plan, CELL, LAYERS, PLACES};
 use crate::model::{Curve, Reached, Refusal};
@@ -29,7 +30,7 @@ pub fn write(
     if samples.len() != points
         || coefficients.len() != points
         || values.len() != points
-        || output.len() < 32_768
+        || output.len() < 36_864
     {
         return refused(3);
     }
@@ -61,10 +62,23 @@ pub fn write(
         .zip(widths)
         .map(|(&count, width)| count * width as u64)
         .sum();
-    let length = print(&header, output);
+    let losses = measure(&header, &words);
+    let length = print(&header, &losses, output);
     let end = length + header.cells as usize * CELL;
     put(&words, &header.planes, &widths, &mut output[length..end]);
     Ok(end as u64)
+}
+
+/// What the layers lose, by their words.
+fn measure(header: &Header, words: &[u32; WORDS]) -> Losses {
+    let mut losses = Losses::none();
+    let mut start = 0;
+    for layer in 0..header.layers() {
+        let size = Grid::of(header.levels, layer).size(header.rows, header.cols);
+        losses.measure(&words[start..start + size], header.planes[layer]);
+        start += size.next_multiple_of(8 * CELL);
+    }
+    losses
 }
 
 /// The planes that are whole in the bytes behind the header.
@@ -93,7 +107,8 @@ pub fn show_unless(
     values: &mut [i64],
     check: impl FnOnce(&Header) -> Result<(), Refusal>,
 ) -> Result<(Header, Reached), Refusal> {
-    let (header, body) = open(card)?;
+    let mut losses = Losses::none();
+    let (header, body) = open(card, &mut losses)?;
     if coefficients.len() != header.points() || values.len() != header.points() {
         return refused(3);
     }
@@ -103,7 +118,7 @@ pub fn show_unless(
     check(&header)?;
     spread(&header, &words, coefficients);
     rebuild(&header, &plan, coefficients, values);
-    let figure = header.figure(&plan);
+    let figure = header.figure(&losses, &plan);
     Ok((header, Reached { plan, figure }))
 }
 
@@ -118,7 +133,7 @@ struct NextPlane<'a> {
     layer: usize,
     bytes: &'a [u8],
     weight: i32,
-    reached: Plan,
+    reached: Reached,
 }
 
 impl<'a> NextPlane<'a> {
@@ -130,7 +145,8 @@ impl<'a> NextPlane<'a> {
         coefficients: &[i32],
         values: &[usize],
     ) -> Result<NextPlane<'a>, Refusal> {
-        let (header, body) = open(card)?;
+        let mut losses = Losses::none();
+        let (header, body) = open(card, &mut losses)?;
         let points = header.points();
         if coefficients.len() != points || values.iter().any(|&length| length != points) {
             return refused(3);
@@ -168,14 +184,15 @@ impl<'a> NextPlane<'a> {
         } else {
             -(1 << p)
         };
-        let mut reached = *plan;
-        reached[k] += 1;
+        let mut plan = *plan;
+        plan[k] += 1;
+        let figure = header.figure(&losses, &plan);
         Ok(NextPlane {
             header,
             layer: k,
             bytes,
             weight,
-            reached,
+            reached: Reached { plan, figure },
         })
     }
 
@@ -190,13 +207,6 @@ impl<'a> NextPlane<'a> {
             i += 1;
         });
     }
-
-    fn reached(&self) -> Reached {
-        Reached {
-            plan: self.reached,
-            figure: self.header.figure(&self.reached),
-        }
-    }
 }
 
 pub fn refine(
@@ -208,8 +218,8 @@ pub fn refine(
 ) -> Result<Reached, Refusal> {
     let plane = NextPlane::of(card, plan, layer, coefficients, &[values.len()])?;
     plane.each_term(|at, term| coefficients[at] += term);
-    rebuild(&plane.header, &plane.reached, coefficients, values);
-    Ok(plane.reached())
+    rebuild(&plane.header, &plane.reached.plan, coefficients, values);
+    Ok(plane.reached)
 }
 
 /// Nothing is copied: what the plane adds is put onto the rebuilt values of its layer, since no point of a layer looks
@@ -224,11 +234,11 @@ pub fn preview(
 ) -> Result<Reached, Refusal> {
     let lengths = [values.len(), next.len()];
     let plane = NextPlane::of(card, plan, layer, coefficients, &lengths)?;
-    let (header, plan) = (&plane.header, &plane.reached);
+    let (header, plan) = (&plane.header, &plane.reached.plan);
     let (behind, end) = (plane.layer + 1, header.layers());
     rebuild_layers(header, plan, 0..behind, coefficients, next);
     let width = 2 * header.step as i64 + 1;
     plane.each_term(|at, term| next[at] += i64::from(term) * width);
     rebuild_layers(header, plan, behind..end, coefficients, next);
-    Ok(plane.reached())
+    Ok(plane.reached)
 }

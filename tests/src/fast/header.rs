@@ -1,5 +1,6 @@
 //! The header's text, printed and read.
 
+use super::losses::Losses;
 use super::{refused, Header, CELL, LAYERS};
 use crate::model::{Curve, Refusal};
 
@@ -34,10 +35,21 @@ impl Text<'_> {
         self.number(number);
         self.put(b"\n");
     }
+
+    fn list(&mut self, key: &[u8], numbers: impl Iterator<Item = u64>) {
+        self.put(key);
+        for (place, number) in numbers.enumerate() {
+            if place > 0 {
+                self.put(b",");
+            }
+            self.number(number);
+        }
+        self.put(b"\n");
+    }
 }
 
-/// Prints a header at the front of the bytes; answers its length.
-pub fn print(header: &Header, bytes: &mut [u8]) -> usize {
+/// Prints a header with its losses at the front of the bytes; answers its length.
+pub fn print(header: &Header, losses: &Losses, bytes: &mut [u8]) -> usize {
     let mut text = Text { bytes, length: 0 };
     text.line(b"rows=", header.rows as u64);
     text.line(b"cols=", header.cols as u64);
@@ -47,14 +59,9 @@ pub fn print(header: &Header, bytes: &mut [u8]) -> usize {
         Curve::Cubic => b"curve=cubic\n",
     });
     text.line(b"step=", header.step);
-    text.put(b"planes=");
-    for layer in 0..header.layers() {
-        if layer > 0 {
-            text.put(b",");
-        }
-        text.number(header.planes[layer]);
-    }
-    text.put(b"\n");
+    let planes = &header.planes[..header.layers()];
+    text.list(b"planes=", planes.iter().copied());
+    text.list(b"loss=", losses.told().iter().map(|&loss| loss.into()));
     text.line(b"cells=", header.cells);
     text.length
 }
@@ -105,8 +112,23 @@ impl<'a> Lines<'a> {
     }
 }
 
-/// Opens a card: its header and the bytes behind it.
-pub fn open(card: &[u8]) -> Result<(Header, &[u8]), Refusal> {
+/// The numbers of a line of losses, for each layer one for each number of missing planes.
+fn losses_in(text: &[u8], header: &Header, losses: &mut Losses) -> Option<()> {
+    // Where there are no planes there is no number, and not one with nothing in it.
+    let mut numbers = text
+        .split(|&byte| byte == b',')
+        .skip(text.is_empty().into());
+    for planes in header.planes {
+        for missing in 0..planes {
+            let number = parse(numbers.next()?, 0, 1 << missing)?;
+            losses.push(number as u32);
+        }
+    }
+    numbers.next().is_none().then_some(())
+}
+
+/// Opens a card: its header, the losses that it tells, and the bytes behind it.
+pub fn open<'a>(card: &'a [u8], losses: &mut Losses) -> Result<(Header, &'a [u8]), Refusal> {
     let mut lines = Lines {
         rest: card,
         taken: 0,
@@ -144,6 +166,10 @@ pub fn open(card: &[u8]) -> Result<(Header, &[u8]), Refusal> {
     }
     if layer != header.layers() {
         return Err(lines.wrong());
+    }
+    if lines.rest.starts_with(b"loss=") {
+        let text = lines.next(b"loss=")?;
+        losses_in(text, &header, losses).ok_or(lines.wrong())?;
     }
     lines.number(b"cells=", header.cells, header.cells)?;
     if lines.rest.len() > header.cells as usize * CELL {

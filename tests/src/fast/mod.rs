@@ -6,6 +6,7 @@ mod card;
 mod compare;
 mod header;
 mod layers;
+mod losses;
 mod planes;
 mod planner;
 mod roll;
@@ -16,6 +17,7 @@ pub use planner::{plan_by_cells, plan_by_limit};
 pub use roll::roll;
 
 use crate::model::{Curve, Refusal};
+use losses::Losses;
 
 pub const LAYERS: usize = 13;
 pub const PLACES: u64 = 23;
@@ -67,18 +69,15 @@ impl Header {
     }
 
     /// e plus the losses of the missing planes, carried through the layers.
-    pub fn figure(&self, plan: &Plan) -> u64 {
-        let mut standing = 0;
+    pub fn figure(&self, losses: &Losses, plan: &Plan) -> u64 {
+        let (mut standing, mut first) = (0, 0);
         for (layer, &loaded) in plan.iter().enumerate().take(self.layers()) {
-            let missing = self.planes[layer] - loaded;
-            standing = carry(self.grows(layer), standing) + self.charge(missing);
+            let planes = self.planes[layer];
+            let own = losses.of(first, planes - loaded) * (2 * self.step + 1);
+            standing = carry(self.grows(layer), standing) + own;
+            first += planes as usize;
         }
         self.step + standing
-    }
-
-    /// What a layer adds to the figure: half of what so many digits make, and nothing for none.
-    pub fn charge(&self, missing: u64) -> u64 {
-        ((1 << missing) >> 1) * (2 * self.step + 1)
     }
 }
 

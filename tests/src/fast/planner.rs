@@ -1,7 +1,8 @@
 //! Planning by a table: the least that the first k layers can stand at in exactly c cells.
 
 use super::header::open;
-use super::{carry, refused, Header, Plan, LAYERS};
+use super::losses::Losses;
+use super::{carry, refused, Header, Plan, LAYERS, PLACES};
 use crate::model::{Planned, Refusal};
 
 /// From no cell to 1,012.
@@ -13,18 +14,28 @@ struct Table {
     least: [[u64; ROW]; LAYERS + 1],
     widths: [usize; LAYERS],
     grows: [bool; LAYERS],
+    /// What a layer adds where so many of its planes are loaded.
+    charges: [[u64; PLACES as usize + 1]; LAYERS],
 }
 
-/// What stands after a layer of which so many planes are loaded.
-fn after(header: &Header, grows: bool, layer: usize, loaded: u64, standing: u64) -> u64 {
-    carry(grows, standing) + header.charge(header.planes[layer] - loaded)
+fn charges(header: &Header, losses: &Losses) -> [[u64; PLACES as usize + 1]; LAYERS] {
+    let mut charges = [[0; PLACES as usize + 1]; LAYERS];
+    let mut first = 0;
+    for (charges, planes) in charges.iter_mut().zip(header.planes) {
+        for (charge, missing) in charges.iter_mut().zip((0..=planes).rev()) {
+            *charge = losses.of(first, missing) * (2 * header.step + 1);
+        }
+        first += planes as usize;
+    }
+    charges
 }
 
-fn fill(header: &Header) -> Table {
+fn fill(header: &Header, losses: &Losses) -> Table {
     let mut table = Table {
         least: [[NONE; ROW]; LAYERS + 1],
         widths: header.widths(),
         grows: std::array::from_fn(|layer| layer < header.layers() && header.grows(layer)),
+        charges: charges(header, losses),
     };
     table.least[0][0] = 0;
     let mut reach = 0;
@@ -32,11 +43,11 @@ fn fill(header: &Header) -> Table {
         let (width, grows) = (table.widths[layer], table.grows[layer]);
         let (before, after_it) = table.least.split_at_mut(layer + 1);
         let (from, to) = (&before[layer], &mut after_it[0]);
-        for loaded in 0..=header.planes[layer] {
-            let used = loaded as usize * width;
+        for loaded in 0..=header.planes[layer] as usize {
+            let (used, charge) = (loaded * width, table.charges[layer][loaded]);
             let row = to[used..=used + reach].iter_mut();
             for (entry, &standing) in row.zip(&from[..=reach]) {
-                *entry = (*entry).min(after(header, grows, layer, loaded, standing));
+                *entry = (*entry).min(carry(grows, standing) + charge);
             }
         }
         reach += header.planes[layer] as usize * width;
@@ -50,20 +61,14 @@ fn trace(header: &Header, table: &Table, mut cells: usize) -> Plan {
     for layer in (0..LAYERS).rev() {
         let (width, grows) = (table.widths[layer], table.grows[layer]);
         let standing = table.least[layer + 1][cells];
-        plan[layer] = (0..=header.planes[layer])
+        let loaded = (0..=header.planes[layer] as usize)
             .find(|&loaded| {
-                let used = loaded as usize * width;
-                used <= cells
-                    && after(
-                        header,
-                        grows,
-                        layer,
-                        loaded,
-                        table.least[layer][cells - used],
-                    ) == standing
+                let (used, charge) = (loaded * width, table.charges[layer][loaded]);
+                used <= cells && carry(grows, table.least[layer][cells - used]) + charge == standing
             })
             .expect("an entry comes from some count");
-        cells -= plan[layer] as usize * width;
+        plan[layer] = loaded as u64;
+        cells -= loaded * width;
     }
     plan
 }
@@ -77,12 +82,13 @@ fn planned(header: &Header, table: &Table, cells: usize) -> Planned {
 }
 
 pub fn plan_by_limit(card: &[u8], limit: u64) -> Result<Planned, Refusal> {
-    let (header, _) = open(card)?;
+    let mut losses = Losses::none();
+    let (header, _) = open(card, &mut losses)?;
     if limit < header.step {
         return refused(10);
     }
     let room = (limit - header.step).min(NONE - 1);
-    let table = fill(&header);
+    let table = fill(&header, &losses);
     let cells = table.least[LAYERS]
         .iter()
         .position(|&standing| standing <= room);
@@ -90,8 +96,9 @@ pub fn plan_by_limit(card: &[u8], limit: u64) -> Result<Planned, Refusal> {
 }
 
 pub fn plan_by_cells(card: &[u8], most: u64) -> Result<Planned, Refusal> {
-    let (header, _) = open(card)?;
-    let table = fill(&header);
+    let mut losses = Losses::none();
+    let (header, _) = open(card, &mut losses)?;
+    let table = fill(&header, &losses);
     let row = &table.least[LAYERS][..=most.min(ROW as u64 - 1) as usize];
     let cells = (0..row.len())
         .min_by_key(|&cells| row[cells])

@@ -1,19 +1,12 @@
 //! How far a value may stand from its sample (docs/CARD.md, "The figure").
 
 use super::header::{open, Opened};
+use super::losses::said;
 use super::plan::{check_plan, missing_of, Plan};
 use super::predict::Curve;
 use super::refusal::Refusal;
 use super::sheet::{Layer, Shape};
 use super::steps::width;
-
-/// The most that a coefficient is off where so many of its digits count as their middle.
-pub fn loss(digits: u64) -> u64 {
-    match digits {
-        0 => 0,
-        _ => 1 << (digits - 1),
-    }
-}
 
 /// What an error becomes by a curve in a point that is predicted from values so far off.
 pub fn carry(curve: Curve, standing: u64) -> u64 {
@@ -44,7 +37,7 @@ pub fn layer_carry(shape: Shape, curve: Curve, layer: Layer, standing: u64) -> u
 /// What stands after a layer, from what stood before it, with `missing` planes of it
 /// not loaded.
 pub fn standing_after(opened: &Opened, layer: usize, standing: u64, missing: u64) -> u64 {
-    let own = loss(missing) * width(opened.step);
+    let own = said(opened, layer, missing) * width(opened.step);
     if layer == 0 {
         // Anchors are predicted from nothing, so there is nothing to carry.
         own

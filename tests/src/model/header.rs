@@ -1,6 +1,7 @@
 //! The card's header, printed (docs/CARD.md, "The card") and opened ("Refusals").
 
 use super::digits::MOST_DIGITS;
+use super::losses::closed;
 use super::planes::{cells_in, CELL_BYTES};
 use super::predict::Curve;
 use super::refusal::{self, Refusal};
@@ -17,8 +18,10 @@ pub struct Opened {
     pub step: u64,
     /// P_k, 1 + 2L of them.
     pub planes: Vec<u64>,
+    /// What each layer loses where 1, 2, .. P_k planes of it are missing; an old card does not say.
+    pub losses: Option<Vec<Vec<u64>>>,
     pub cells: u64,
-    /// Bytes of the seven lines with their ends.
+    /// Bytes of the lines with their ends.
     pub header_length: usize,
     /// The layers, from the shape.
     pub layers: Vec<Layer>,
@@ -42,27 +45,41 @@ impl Opened {
             self.curve,
             self.step,
             &self.planes,
+            self.losses.as_deref(),
             self.cells,
         )
     }
 }
 
-/// The seven lines with their ends.
-pub fn print(shape: Shape, curve: Curve, step: u64, planes: &[u64], cells: u64) -> Vec<u8> {
+/// Numbers with commas between.
+fn joined(numbers: &[u64]) -> String {
+    let numbers: Vec<String> = numbers.iter().map(u64::to_string).collect();
+    numbers.join(",")
+}
+
+/// The eight lines with their ends; the seven of an old card, which has no losses.
+pub fn print(
+    shape: Shape,
+    curve: Curve,
+    step: u64,
+    planes: &[u64],
+    losses: Option<&[Vec<u64>]>,
+    cells: u64,
+) -> Vec<u8> {
     let curve = match curve {
         Curve::Linear => "linear",
         Curve::Cubic => "cubic",
     };
-    let planes: Vec<String> = planes.iter().map(u64::to_string).collect();
-    let lines = [
+    let mut lines = vec![
         format!("rows={}", shape.rows),
         format!("cols={}", shape.cols),
         format!("levels={}", shape.levels),
         format!("curve={curve}"),
         format!("step={step}"),
-        format!("planes={}", planes.join(",")),
-        format!("cells={cells}"),
+        format!("planes={}", joined(planes)),
     ];
+    lines.extend(losses.map(|losses| format!("loss={}", joined(&losses.concat()))));
+    lines.push(format!("cells={cells}"));
     lines
         .iter()
         .flat_map(|line| [line.as_bytes(), &[10]].concat())
@@ -115,6 +132,27 @@ fn planes_line(line: &[u8], points: &[u64]) -> Option<Vec<u64>> {
     (right_number && !empty_layer_has_planes).then_some(counts)
 }
 
+/// What a line of losses begins with.
+const LOSSES: &[u8] = b"loss=";
+
+/// The numbers of a line of losses, for each layer in turn one for each number of missing planes, and none above the
+/// closed loss.
+fn losses_line(line: &[u8], planes: &[u64]) -> Option<Vec<Vec<u64>>> {
+    let list = line.strip_prefix(LOSSES)?;
+    // With no number there is no text at all, which is not one text with nothing in it.
+    let mut texts = list
+        .split(|&byte| byte == b',')
+        .skip(list.is_empty().into());
+    let mut losses = Vec::new();
+    for &count in planes {
+        let of_layer: Option<Vec<u64>> = (1..=count)
+            .map(|missing| number(texts.next()?, closed(missing)))
+            .collect();
+        losses.push(of_layer?);
+    }
+    texts.next().is_none().then_some(losses)
+}
+
 /// Takes the next line off the bytes: 5 where it has no end, and only then 6.
 fn take_line<T>(
     rest: &mut &[u8],
@@ -148,7 +186,14 @@ pub fn open(card: &[u8]) -> Result<Opened, Refusal> {
     let points = shape.layer_counts();
     let planes = take_line(&mut rest, 6, |line| planes_line(line, &points))?;
     let total = cells_in(&planes, &points);
-    let cells = take_line(&mut rest, 7, |line| {
+    // An old card goes on with its cells.
+    let (losses, last_line) = if rest.starts_with(LOSSES) {
+        let losses = take_line(&mut rest, 7, |line| losses_line(line, &planes))?;
+        (Some(losses), 8)
+    } else {
+        (None, 7)
+    };
+    let cells = take_line(&mut rest, last_line, |line| {
         keyed_number(line, "cells=", total).filter(|&cells| cells == total)
     })?;
     if rest.len() as u64 > cells * CELL_BYTES {
@@ -161,6 +206,7 @@ pub fn open(card: &[u8]) -> Result<Opened, Refusal> {
         curve,
         step,
         planes,
+        losses,
         cells,
         header_length: card.len() - rest.len(),
         layers: shape.layers(),

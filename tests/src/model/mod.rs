@@ -1,10 +1,11 @@
-//! The model, one file for each idea of docs/CARD.md. All but the roll, comparing, previewing, the program trace, what narrow layers carry and
-//! what missing digits count as was written before that document, from the customer's request; none of it shares code or structure with the proved side.
+//! The model, one file for each idea of docs/CARD.md. All but the roll, comparing, previewing, the program trace, what narrow layers carry,
+//! what missing digits count as and losses as measured was written before that document, from the customer's request; none of it shares code or structure with the proved side.
 
 pub mod compare;
 pub mod digits;
 pub mod figure;
 pub mod header;
+pub mod losses;
 pub mod plan;
 pub mod planes;
 pub mod planner;

@@ -2,6 +2,7 @@
 
 use super::digits::{digits_needed, digits_of};
 use super::header::print;
+use super::losses::measured;
 use super::planes::{bytes_of_plane, card_order, cells_in};
 use super::predict::{predict, Curve};
 use super::refusal::{self, Refusal};
@@ -9,7 +10,7 @@ use super::sheet::{Shape, LARGEST_SAMPLE, MOST_LEVELS, MOST_POINTS};
 use super::steps::{coefficient, rebuilt, LARGEST_STEP};
 
 /// The room that the output has to have.
-pub const OUTPUT_BYTES: usize = 32_768;
+pub const OUTPUT_BYTES: usize = 36_864;
 
 /// Refusal 1. A product too large for u64 is too many points too.
 fn check_size(rows: u64, cols: u64) -> Result<(), Refusal> {
@@ -84,8 +85,14 @@ pub fn write(
         .map(|layer| layer.iter().map(|&q| digits_of(q)).collect())
         .collect();
 
+    let losses: Vec<Vec<u64>> = layers
+        .iter()
+        .zip(&planes)
+        .map(|(layer, &planes)| measured(layer, planes))
+        .collect();
+
     let cells = cells_in(&planes, &points);
-    let mut card = print(shape, curve, step, &planes, cells);
+    let mut card = print(shape, curve, step, &planes, Some(&losses), cells);
     for plane in card_order(&planes, &points) {
         let bits: Vec<bool> = digits[plane.layer]
             .iter()

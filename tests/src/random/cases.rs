@@ -3,6 +3,7 @@
 use super::sheets::{sheet, Kind, KINDS};
 use super::Random;
 use crate::model::sheet::{Shape, MOST_LEVELS, MOST_POINTS};
+use crate::model::write::OUTPUT_BYTES;
 use crate::model::{self, Curve};
 
 pub const CURVES: [Curve; 2] = [Curve::Linear, Curve::Cubic];
@@ -129,7 +130,7 @@ impl Case {
         const FILLING: u8 = 0xA7;
         let mut coefficients = vec![-77; self.count()];
         let mut values = vec![-77; self.count()];
-        let mut output = vec![FILLING; 32_768];
+        let mut output = vec![FILLING; OUTPUT_BYTES];
         let length = model::write(
             &self.samples,
             self.rows,

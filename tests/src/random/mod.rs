@@ -2,6 +2,7 @@
 
 pub mod cases;
 pub mod damage;
+pub mod losses;
 pub mod plans;
 pub mod sheets;
 

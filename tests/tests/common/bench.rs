@@ -1,5 +1,6 @@
-//! The bench card (docs/CARD.md, "Worked examples"), put together by hand, and what is said of it
-//! there; and a finer one of its size, to compare it with.
+//! The bench card (docs/CARD.md, "Worked examples"), put together by hand, and what is said of it there; what is written
+//! for the same samples now, with a line of losses, which the bench card has not; and a finer card of its size, to
+//! compare it with.
 
 use super::{card_of, header_lines, plan};
 use trace_card_tests::model::{Compared, Curve, Planned, Reached};
@@ -141,6 +142,76 @@ pub fn planned_by_cells() -> [(u64, Planned); 1] {
     [(5, planned(&[5], 5, 4))]
 }
 
+/// What the writer puts between planes and cells for these samples. By hand: the anchors' coefficients 3, 4 and 10 are
+/// 00111, 00100 and 11110 in digits. The lowest of them is 1, 0 and 0, whose middle is 0: at most 1 off. Two are -1, 0
+/// and -2, whose middle is -1: 1. Three are 3, 4 and 2, with the middle 1: 3. Four are 3, 4 and -6, with the middle -3: 7.
+/// Five are 3, 4 and 10, with the middle 5: 5, less than four. Of layer 1, 1 and 0 are at most 1 off.
+pub const LOSSES: &[u8] = b"loss=1,1,3,7,5,1";
+
+pub const WRITTEN_HEADER_BYTES: usize = 81;
+pub const WRITTEN_CARD_BYTES: usize = 273;
+
+/// Its lines, and with them the card that is written.
+pub fn written_lines() -> Vec<&'static [u8]> {
+    let mut lines = LINES.to_vec();
+    lines.insert(6, LOSSES);
+    lines
+}
+
+pub fn written_card() -> Vec<u8> {
+    card_of(&written_lines(), &CELLS)
+}
+
+/// That card with one of its lines, numbered from 1, replaced.
+pub fn written_with_line(number: usize, line: &[u8]) -> Vec<u8> {
+    let mut lines = written_lines();
+    lines[number - 1] = line;
+    card_of(&lines, &CELLS)
+}
+
+/// The same planes of that card: plans, coefficients and values are those of the bench card, figures are by its own
+/// losses. Two digits of layer 0 and the one of layer 1 leave 1 + (1 + 1) * 3, three leave 1 + (3 + 1) * 3, and all
+/// five 1 + (5 + 1) * 3.
+pub fn written_shown() -> [Shown; 4] {
+    let figures = [1, 7, 13, 19];
+    let mut shown = shown();
+    for (shown, figure) in shown.iter_mut().zip(figures) {
+        shown.length += WRITTEN_HEADER_BYTES - HEADER_BYTES;
+        shown.reached.figure = figure;
+    }
+    shown
+}
+
+/// Previews of it from three planes of its anchors, as those of the bench card: the anchors lose 1 with two digits
+/// missing and with one, so the plane at place 1 leaves the figure 7.
+pub fn written_previewed() -> [Previewed; 2] {
+    let mut previewed = previewed();
+    previewed[1].reached.figure = 4;
+    previewed
+}
+
+/// Plans of it. By hand, with a planes of layer 0 and b of layer 1 the figure is 1 and 3 times what is lost, which is
+/// 5, 7, 3, 1, 1, 0 for a = 0 to 5 and 1, 0 for b: with no planes 19, with the first of layer 0 it is 25.
+pub fn written_planned_by_limit() -> [(u64, Planned); 6] {
+    [
+        (9, planned(&[3], 3, 7)),
+        (4, planned(&[3, 1], 4, 4)),
+        (1, planned(&[5, 1], 6, 1)),
+        (19, planned(&[], 0, 19)),
+        (18, planned(&[0, 1], 1, 16)),
+        (15, planned(&[2], 2, 13)),
+    ]
+}
+
+pub fn written_planned_by_cells() -> [(u64, Planned); 4] {
+    [
+        (1, planned(&[0, 1], 1, 16)),
+        (5, planned(&[3, 1], 4, 4)),
+        (2, planned(&[2], 2, 13)),
+        (6, planned(&[5, 1], 6, 1)),
+    ]
+}
+
 /// Another row of five, which differs in the last column alone, on a finer card; one level, cubic, step 0.
 pub fn fine_sheet() -> Case {
     Case {
@@ -153,15 +224,20 @@ pub fn fine_sheet() -> Case {
     }
 }
 
-pub const FINE_HEADER_BYTES: usize = 64;
-pub const FINE_CARD_BYTES: usize = 416;
+pub const FINE_HEADER_BYTES: usize = 93;
+pub const FINE_CARD_BYTES: usize = 445;
 
 /// Its card. By hand: the anchors have the coefficients 10, 11 and 38. No point across has four
 /// neighbours: column 1 is predicted as (10 + 11) / 2 = 10, so q = 3, and column 3 as (11 + 38) / 2 = 24,
 /// so q = -4. Digits, highest first: 10 is 11110, 11 is 11111, 38 is 1111010; 3 is 111, -4 is 1100. The
 /// planes are those of layer 0 at the places 6, 5 and 4, and from place 3 on of layers 0 and 1 in turn.
+///
+/// The losses: of layer 0 one digit is 0, 1, 0; two -2, -1, -2; three 2, 3, -2; four -6, -5, -10; five 10, 11, 6; six 10,
+/// 11, -26; seven 10, 11, 38. The middles are 0, -1, 1, -3, 5, -11 and 21. Of layer 1 one digit is 1, 0; two -1, 0; three
+/// 3, 4; four 3, -4.
 pub fn fine_card() -> Vec<u8> {
-    let lines = header_lines((1, 5), 1, "cubic", 0, &[7, 4, 0], 11);
+    let mut lines = header_lines((1, 5), 1, "cubic", 0, &[7, 4, 0], 11).to_vec();
+    lines.insert(6, "loss=1,1,3,7,6,22,17,1,1,3,6".to_string());
     card_of(&lines, &[4, 4, 7, 7, 2, 3, 3, 7, 1, 2, 1])
 }
 

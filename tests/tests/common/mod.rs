@@ -9,6 +9,8 @@ pub mod document;
 pub mod extremes;
 pub mod faults;
 pub mod files;
+pub mod hour;
+pub mod losses;
 pub mod missing;
 pub mod narrow;
 pub mod page;
@@ -34,7 +36,7 @@ pub fn highest_first(q: i64) -> String {
     digits.map(|digit| digit.to_string()).collect()
 }
 
-/// The seven lines of a header, without their ends.
+/// The seven lines of an old card's header, without their ends.
 pub fn header_lines(
     (rows, cols): (u64, u64),
     levels: u64,
@@ -98,7 +100,7 @@ pub fn layer_places(rows: u64, cols: u64, levels: u64) -> Vec<Vec<usize>> {
     places
 }
 
-/// A card with any coefficients that 23 digits hold, those that no writer leaves too.
+/// An old card with any coefficients that 23 digits hold, those that no writer leaves too.
 pub fn card_with(
     (rows, cols): (u64, u64),
     levels: u64,
@@ -180,9 +182,24 @@ fn has_four_neighbours(opened: &Opened, layer: usize) -> bool {
     point + 3 * spacing < length
 }
 
+/// What a layer loses by its d low digits: a number of its card's line, in which those of the layers before it come
+/// first; of an old card the most that there is.
+fn loss_told(opened: &Opened, layer: usize, d: u64) -> u64 {
+    match (&opened.losses, d) {
+        (_, 0) => 0,
+        (None, _) => loss_by_hand(d),
+        (Some(losses), _) => {
+            let before: u64 = opened.planes[..layer].iter().sum();
+            let mut numbers = losses.iter().flatten().copied();
+            numbers.nth((before + d - 1) as usize).unwrap()
+        }
+    }
+}
+
 /// What stands after the first layers, seen from the last of them.
 fn standing(opened: &Opened, sizes: &[usize], plan: &Plan, layer: usize) -> u64 {
-    let own = loss_by_hand(opened.planes[layer] - plan[layer]) * (2 * opened.step + 1);
+    let lost = loss_told(opened, layer, opened.planes[layer] - plan[layer]);
+    let own = lost * (2 * opened.step + 1);
     if layer == 0 {
         return own;
     }

@@ -5,6 +5,7 @@ use super::both::{
     written, Slices, B, V,
 };
 use super::common::{bench, narrow, plan, refusal};
+use trace_card_tests::model::write::OUTPUT_BYTES;
 use trace_card_tests::model::{Curve, Refusal};
 use trace_card_tests::random::cases::Case;
 
@@ -23,19 +24,37 @@ fn write_sheet(
         step,
         samples,
     };
-    write(&case, [case.count(); 2], 32_768)
+    write(&case, [case.count(); 2], OUTPUT_BYTES)
 }
 
 #[test]
 fn one_by_five_is_written() {
     let card = write_sheet((1, 5), 1, 1, bench::SAMPLES.to_vec());
-    assert_eq!(card, Ok(bench::card()));
+    assert_eq!(card, Ok(bench::written_card()));
+}
+
+/// The bench card, which is an old one, and what is written now: the cards, their headers' lengths, and what their cuts
+/// show.
+fn both_cards() -> [(Vec<u8>, usize, [bench::Shown; 4]); 2] {
+    [
+        (bench::card(), bench::HEADER_BYTES, bench::shown()),
+        (
+            bench::written_card(),
+            bench::WRITTEN_HEADER_BYTES,
+            bench::written_shown(),
+        ),
+    ]
 }
 
 #[test]
-fn its_cuts_are_shown_and_read() {
-    let card = bench::card();
-    for shown in bench::shown() {
+fn their_cuts_are_shown_and_read() {
+    for (card, header, shown) in both_cards() {
+        check_cuts(&card, header, shown);
+    }
+}
+
+fn check_cuts(card: &[u8], header: usize, shown: [bench::Shown; 4]) {
+    for shown in shown {
         let cut = &card[..shown.length];
         let mut slices = Slices::new(5);
         assert_eq!(show(cut, &mut slices), Ok(shown.reached));
@@ -46,7 +65,7 @@ fn its_cuts_are_shown_and_read() {
         assert_eq!((read, fresh), (Ok(shown.reached), slices));
         assert_eq!(figure(cut, &shown.reached.plan), Ok(shown.reached.figure));
     }
-    let cut_in_header = show(&card[..63], &mut Slices::new(5));
+    let cut_in_header = show(&card[..header - 1], &mut Slices::new(5));
     assert_eq!(cut_in_header, Err(refusal(5, [0, 0])));
 }
 
@@ -78,11 +97,15 @@ fn it_is_compared() {
     }
 }
 
-/// From no planes to the three of the first 160 bytes.
+/// From no planes to the three of the first 160 bytes, or 177.
 #[test]
-fn its_cut_is_refined_to_the_same() {
-    let [_, shown, ..] = bench::shown();
-    let cut = &bench::card()[..shown.length];
+fn their_cuts_are_refined_to_the_same() {
+    for (card, _, [_, shown, ..]) in both_cards() {
+        check_refined(&card[..shown.length], &shown);
+    }
+}
+
+fn check_refined(cut: &[u8], shown: &bench::Shown) {
     let mut slices = Slices::new(5);
     let mut reached = read(cut, &plan(&[]), &mut slices).unwrap();
     for _ in 0..3 {
@@ -95,22 +118,30 @@ fn its_cut_is_refined_to_the_same() {
     assert_eq!(refused, Err(refusal(9, [0, 0])));
 }
 
-/// From three planes of the anchors, which the whole card has and its first 160 bytes too.
+/// From three planes of the anchors, which the whole card has and its first 160 bytes, or 177, too.
 #[test]
 fn one_plane_more_is_previewed() {
-    let card = bench::card();
-    let [_, shown, ..] = bench::shown();
+    let [old, written] = both_cards();
+    for ((card, _, [_, shown, ..]), previewed) in [
+        (old, bench::previewed()),
+        (written, bench::written_previewed()),
+    ] {
+        check_previews(&card, &shown, previewed);
+    }
+}
+
+fn check_previews(card: &[u8], shown: &bench::Shown, previewed: [bench::Previewed; 2]) {
     let from = shown.reached.plan;
     let mut slices = Slices::new(5).and_next(5);
-    assert_eq!(read(&card, &from, &mut slices), Ok(shown.reached));
+    assert_eq!(read(card, &from, &mut slices), Ok(shown.reached));
     let mut look = |card: &[u8], layer| {
         let answer = preview(card, &from, layer, &mut slices);
         assert_eq!(slices.coefficients, shown.coefficients);
         assert_eq!(slices.values, shown.values);
         (answer, std::mem::replace(&mut slices.next, vec![V; 5]))
     };
-    for expected in bench::previewed() {
-        let found = look(&card, expected.layer);
+    for expected in previewed {
+        let found = look(card, expected.layer);
         assert_eq!(found, (Ok(expected.reached), expected.next.to_vec()));
         // Pulled, the card has no further plane.
         let found = look(&card[..shown.length], expected.layer);
@@ -118,17 +149,25 @@ fn one_plane_more_is_previewed() {
         assert_eq!(found, (Err(refused), vec![V; 5]));
     }
     let refused = Err(refusal(9, [2, 0]));
-    assert_eq!(look(&card, 2), (refused, vec![V; 5]));
+    assert_eq!(look(card, 2), (refused, vec![V; 5]));
 }
 
 #[test]
-fn its_plans() {
+fn their_plans() {
     let card = bench::card();
     for (limit, planned) in bench::planned_by_limit() {
         assert_eq!(plan_by_limit(&card, limit), Ok(planned));
     }
     assert_eq!(plan_by_limit(&card, 0), Err(refusal(10, [0, 0])));
     for (cells, planned) in bench::planned_by_cells() {
+        assert_eq!(plan_by_cells(&card, cells), Ok(planned));
+    }
+    let card = bench::written_card();
+    for (limit, planned) in bench::written_planned_by_limit() {
+        assert_eq!(plan_by_limit(&card, limit), Ok(planned));
+    }
+    assert_eq!(plan_by_limit(&card, 0), Err(refusal(10, [0, 0])));
+    for (cells, planned) in bench::written_planned_by_cells() {
         assert_eq!(plan_by_cells(&card, cells), Ok(planned));
     }
 }

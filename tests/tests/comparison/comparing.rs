@@ -8,6 +8,7 @@ use super::common::faults::faulty_comparisons;
 use trace_card_tests::boundary::ANSWER;
 use trace_card_tests::model::{open, Compared, Refusal};
 use trace_card_tests::random::cases::{small_size, Case, CURVES, LARGE_SIZES};
+use trace_card_tests::random::losses::any_kind;
 use trace_card_tests::random::sheets::Kind;
 use trace_card_tests::random::Random;
 
@@ -108,7 +109,7 @@ fn every_cut_of_small_cards() {
         let case = Case::small(&mut random);
         let other = beside(&mut random, &case);
         let points = [case.count(); 2];
-        let [first, second] = [case, other].map(|case| written(&case));
+        let [first, second] = [case, other].map(|case| any_kind(&mut random, written(&case)));
         for length in 0..=first.len() {
             let cut = random.length(0, second.len());
             for second in [&second[..], &second[..cut]] {
@@ -129,7 +130,7 @@ fn made_cards() {
         let other = beside(&mut random, &case);
         let points = [case.count(); 2];
         let [first, second] = [case, other].map(|case| {
-            let mut card = written(&case);
+            let mut card = any_kind(&mut random, written(&case));
             let header = open(&card).unwrap().header_length;
             if random.once_in(3) {
                 card.truncate(random.length(header, card.len()));
@@ -153,7 +154,8 @@ fn the_largest_cards() {
                 (case.curve, case.levels) = (curve, random.pick(&[0, 3, 6]));
                 let points = [case.count(); 2];
                 let second = written(&beside(&mut random, &case));
-                let first = written(&case);
+                let [first, second] =
+                    [written(&case), second].map(|card| any_kind(&mut random, card));
                 let header = open(&first).unwrap().header_length;
                 let cut = random.length(header, first.len());
                 for length in [first.len(), cut, header] {

@@ -8,6 +8,7 @@ use trace_card_tests::boundary::PLAN;
 use trace_card_tests::model::open;
 use trace_card_tests::random::cases::Case;
 use trace_card_tests::random::damage::{damage_header, damaged_at};
+use trace_card_tests::random::losses::{any_kind, old};
 use trace_card_tests::random::Random;
 
 /// Every call on the same bytes, from no planes, and both ways of comparing them with the card as it was
@@ -43,8 +44,13 @@ fn headers_damaged_byte_by_byte() {
         let (first, step) = if round == 0 { (0, 1) } else { (round, 9) };
         let mut bytes: Vec<u8> = (first..=255).step_by(step).collect();
         bytes.extend(b"0123456789,=\n-+ ");
-        let case = Case::small(&mut random);
-        let card = written(&case);
+        let mut case = Case::small(&mut random);
+        // Few layers, so that the line of losses is not the most of the header.
+        case.levels = u64::from(round % 2);
+        let mut card = written(&case);
+        if round > 2 {
+            card = old(&card);
+        }
         for position in 0..open(&card).unwrap().header_length {
             for damaged in damaged_at(&card, position, &bytes) {
                 opened_anyway += u64::from(every_call(&damaged, &card, 0, case.count()));
@@ -62,7 +68,7 @@ fn headers_damaged_in_many_places() {
     let mut random = Random::new(533);
     for _ in 0..4000 {
         let case = Case::small(&mut random);
-        let fine = written(&case);
+        let fine = any_kind(&mut random, written(&case));
         let header = open(&fine).unwrap().header_length;
         let mut card = fine.clone();
         damage_header(&mut random, &mut card, header);

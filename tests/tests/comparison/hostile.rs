@@ -21,8 +21,9 @@ fn any_value(random: &mut Random) -> String {
         2 => "linear".to_string(),
         3 => "cubic".to_string(),
         4 => {
-            let counts: Vec<String> = (0..random.below(15))
-                .map(|_| random.below(25).to_string())
+            let (counts, end) = random.pick(&[(15, 25), (30, 5), (400, 9)]);
+            let counts: Vec<String> = (0..random.below(counts))
+                .map(|_| random.below(end).to_string())
                 .collect();
             counts.join(",")
         }
@@ -36,6 +37,26 @@ fn any_value(random: &mut Random) -> String {
 fn any_size(random: &mut Random) -> (u64, u64) {
     let end = if random.once_in(40) { 40 } else { 12 };
     (1 + random.below(end), 1 + random.below(end))
+}
+
+/// A line of losses of so many planes in each layer, rising or not. Now and then a number is one too large, or one is
+/// missing or too many.
+fn losses_like(random: &mut Random, planes: &[u64]) -> String {
+    let mut numbers: Vec<u64> = Vec::new();
+    for &count in planes {
+        numbers.extend((0..count).map(|place| random.below((1 << place) + 1)));
+    }
+    if random.once_in(8) && !numbers.is_empty() {
+        let at = random.below(numbers.len() as u64) as usize;
+        match random.below(4) {
+            0 => numbers.insert(at, 0),
+            1 => drop(numbers.remove(at)),
+            2 => numbers[at] += 1,
+            _ => numbers[at] = random.pick(&HUGE),
+        }
+    }
+    let numbers: Vec<String> = numbers.iter().map(u64::to_string).collect();
+    format!("loss={}", numbers.join(","))
 }
 
 /// A header of this size that is right but for a line now and then, and any bytes behind it, about as many
@@ -59,9 +80,14 @@ fn card_like(random: &mut Random, (rows, cols): (u64, u64)) -> Vec<u8> {
         random.below(65_536),
         &planes,
         cells,
-    );
+    )
+    .to_vec();
+    // An old card, or one with any line of losses that is about right.
+    if !random.once_in(3) {
+        lines.insert(6, losses_like(random, &planes));
+    }
     if random.once_in(3) {
-        let line = random.pick(&[0, 1, 2, 3, 4, 5, 6]);
+        let line = random.below(lines.len() as u64) as usize;
         let key = lines[line].split('=').next().unwrap();
         lines[line] = format!("{key}={}", any_value(random));
     }

@@ -5,6 +5,7 @@ use super::both::{check, A, B, Q, V};
 use super::calls::{Call, Memory, Slice, SLICES};
 use super::common::bench;
 use trace_card_tests::boundary::{ANSWER, PLAN};
+use trace_card_tests::model::write::OUTPUT_BYTES;
 
 const WRITE: Call = Call::Write {
     rows: 1,
@@ -42,7 +43,7 @@ fn memory() -> Memory {
         next: vec![V; 5],
         second_coefficients: vec![Q; 5],
         second_values: vec![V; 5],
-        output: vec![B; 32_768],
+        output: vec![B; OUTPUT_BYTES],
         page: vec![B; 150],
         apart: vec![B; 5],
         answer: vec![A; ANSWER],
@@ -62,7 +63,7 @@ fn expected(call: Call, slice: Slice, length: usize) -> u64 {
         Slice::Coefficients | Slice::Values => (writes || reads) && length != 5,
         Slice::Next => previews && length != 5,
         Slice::SecondCoefficients | Slice::SecondValues | Slice::Apart => compares && length != 5,
-        Slice::Output => writes && length < 32_768,
+        Slice::Output => writes && length < OUTPUT_BYTES,
         Slice::Page if rolls && length < 150 => return 12,
         Slice::Page => false,
         Slice::Plan => plans && length != 13,
@@ -94,7 +95,8 @@ fn every_slice_of_every_call() {
         for slice in SLICES {
             let right = memory().length(slice);
             let near = [right - 1, right, right + 1];
-            for length in (0..40).chain(near).chain([63, 64, 255, 257, 2 * right]) {
+            let others = [63, 64, 255, 257, 32_768, OUTPUT_BYTES - 1, 2 * right];
+            for length in (0..40).chain(near).chain(others) {
                 let mut other = memory();
                 other.resize(slice, length);
                 let returned = check(call, &mut other);

@@ -16,6 +16,7 @@ mod comparing;
 mod damage;
 mod hostile;
 mod lengths;
+mod losses;
 mod missing;
 mod narrow;
 mod planning;

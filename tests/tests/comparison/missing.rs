@@ -5,6 +5,7 @@ use super::both::{read, refine, show, Slices};
 use super::common::missing::{any_coefficients, every_missing, made_up, plain};
 use super::common::plan;
 use trace_card_tests::model::open;
+use trace_card_tests::random::losses::any_kind;
 use trace_card_tests::random::Random;
 
 const CURVES: [&str; 2] = ["linear", "cubic"];
@@ -18,6 +19,7 @@ fn every_number_of_missing_digits() {
         for curve in CURVES {
             for step in [0, 1 + random.below(65_534), 65_535] {
                 let (coefficients, card) = made_up(&mut random, size, 6, curve, step);
+                let card = any_kind(&mut random, card);
                 let opened = open(&card).unwrap();
                 for plan in every_missing(&opened) {
                     let mut slices = Slices::new(coefficients.len());
@@ -43,6 +45,7 @@ fn refined_from_no_planes_to_all() {
         for curve in CURVES {
             let step = random.below(65_536);
             let (coefficients, card) = made_up(&mut random, size, levels, curve, step);
+            let card = any_kind(&mut random, card);
             let opened = open(&card).unwrap();
             let mut slices = Slices::new(coefficients.len());
             let mut reached = read(&card, &plan(&[]), &mut slices).unwrap();

@@ -7,6 +7,7 @@ use trace_card_tests::model::header::print;
 use trace_card_tests::model::open;
 use trace_card_tests::model::planes::cells_in;
 use trace_card_tests::random::cases::{shapes_at_narrow_edge, step, Case, CURVES};
+use trace_card_tests::random::losses::{any_losses, old, with_losses};
 use trace_card_tests::random::plans::plan_within;
 use trace_card_tests::random::Random;
 
@@ -15,7 +16,9 @@ fn ask(random: &mut Random, card: &[u8]) {
     let opened = open(card).unwrap();
     let some = plan_within(random, &opened.planes);
     let [most, limit] = [plan(&[]), some].map(|plan| figure(card, &plan).unwrap());
-    assert!(opened.step <= limit && limit <= most);
+    assert!(opened.step <= limit);
+    // On an old card nothing is lost by loading more.
+    assert!(opened.losses.is_some() || limit <= most);
     assert!(plan_by_limit(card, limit).unwrap().figure <= limit);
     let cells = random.below(opened.cells + 1);
     assert!(plan_by_cells(card, cells).unwrap().cells <= cells);
@@ -36,6 +39,7 @@ fn written_cards_whole_and_cut() {
                 assert!(furthest(&slices.values, &case.samples) <= shown.figure);
             }
             ask(&mut random, &card[..cut]);
+            ask(&mut random, &old(&card));
         }
     }
 }
@@ -52,8 +56,10 @@ fn made_up_headers() {
                 .map(|&count| if count == 0 { 0 } else { random.below(24) })
                 .collect();
             let cells = cells_in(&planes, &points);
-            let header = print(shape, curve, step(&mut random), &planes, cells);
+            let header = print(shape, curve, step(&mut random), &planes, None, cells);
             ask(&mut random, &header);
+            let losses = any_losses(&mut random, &open(&header).unwrap());
+            ask(&mut random, &with_losses(&header, &losses));
         }
     }
 }

@@ -8,6 +8,7 @@ use trace_card_tests::model::planes::cells_in;
 use trace_card_tests::model::planner::{cells_of_plan, exhaustive, front, plans_of, Goal, Planned};
 use trace_card_tests::model::{open, Opened, Refusal};
 use trace_card_tests::random::cases::{Case, CURVES, LARGE_SIZES};
+use trace_card_tests::random::losses::{any_kind, any_losses, old, with_losses};
 use trace_card_tests::random::plans::plan_about;
 use trace_card_tests::random::sheets::{sheet, Kind, KINDS};
 use trace_card_tests::random::Random;
@@ -93,7 +94,7 @@ fn every_plan_of_small_cards() {
         let kind = random.pick(&[Kind::Quiet, Kind::Smooth, Kind::Noise]);
         let mut case = Case::of_kind(&mut random, kind, rows, cols);
         case.levels = 1 + random.below(3);
-        let card = written(&case);
+        let card = any_kind(&mut random, written(&case));
         if !is_worth_trying(&open(&card).unwrap()) {
             continue;
         }
@@ -127,11 +128,18 @@ fn every_plan_of_made_up_headers() {
             })
             .collect();
         let cells = cells_in(&planes, &opened.points);
-        let opened = Opened {
+        // An old card, or one with any losses, which need not rise.
+        let old = Opened {
             planes,
+            losses: None,
             cells,
             ..opened
         };
+        let card = match random.below(3) {
+            0 => old.print(),
+            _ => with_losses(&old.print(), &any_losses(&mut random, &old)),
+        };
+        let opened = open(&card).unwrap();
         if !is_worth_trying(&opened) {
             continue;
         }
@@ -139,7 +147,7 @@ fn every_plan_of_made_up_headers() {
         wide += u64::from(opened.points.iter().any(|&points| points > 256));
         let goal = Goal::Cells(random.below(opened.cells + 1));
         ties += u64::from(has_tie(&opened, goal));
-        check_goals(&mut random, &opened.print(), exhaustive, 6);
+        check_goals(&mut random, &card, exhaustive, 6);
     }
     assert!(wide > 50 && ties > 20, "{wide} {ties}");
 }
@@ -150,6 +158,10 @@ fn the_largest_cards() {
     for (rows, cols) in LARGE_SIZES {
         for kind in KINDS {
             let card = written(&Case::of_kind(&mut random, kind, rows, cols));
+            check_goals(&mut random, &card, front, 4);
+            let losses = any_losses(&mut random, &open(&card).unwrap());
+            let other = random.pick(&[0, 1]);
+            let card = [old(&card), with_losses(&card, &losses)][other].clone();
             check_goals(&mut random, &card, front, 4);
         }
     }
@@ -175,7 +187,7 @@ fn cut_cards() {
     let mut random = Random::new(544);
     for _ in 0..200 {
         let case = Case::small(&mut random);
-        let card = written(&case);
+        let card = any_kind(&mut random, written(&case));
         let opened = open(&card).unwrap();
         let cut = &card[..random.length(opened.header_length, card.len())];
         let digits = random.below(30);
@@ -199,7 +211,7 @@ fn figures_of_plans() {
     cases.extend((0..400).map(|_| Case::small(&mut random)));
     let (mut accepted, mut refused) = (0, 0);
     for case in cases {
-        let card = written(&case);
+        let card = any_kind(&mut random, written(&case));
         let opened = open(&card).unwrap();
         for _ in 0..10 {
             let plan = plan_about(&mut random, &opened.planes);

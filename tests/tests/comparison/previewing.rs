@@ -8,6 +8,7 @@ use trace_card_tests::boundary::{ANSWER, PLAN};
 use trace_card_tests::model::planes::whole_planes;
 use trace_card_tests::model::{open, Plan, Reached, Refusal};
 use trace_card_tests::random::cases::{Case, CURVES, LARGE_SIZES};
+use trace_card_tests::random::losses::any_kind;
 use trace_card_tests::random::plans::plan_about;
 use trace_card_tests::random::sheets::Kind;
 use trace_card_tests::random::Random;
@@ -47,7 +48,7 @@ fn every_cut_of_small_cards() {
     let (mut accepted, mut refused) = (0, 0);
     for _ in 0..25 {
         let case = Case::small(&mut random);
-        let card = written(&case);
+        let card = any_kind(&mut random, written(&case));
         for length in 0..=card.len() {
             let cut = &card[..length];
             let whole = open(cut).map_or(vec![], |opened| whole_planes(&opened, cut));
@@ -118,7 +119,7 @@ fn lists_on_small_cards() {
     let mut accepted = 0;
     for _ in 0..300 {
         let case = Case::small(&mut random);
-        let mut card = written(&case);
+        let mut card = any_kind(&mut random, written(&case));
         let header = open(&card).unwrap().header_length;
         match random.below(3) {
             0 => card.truncate(random.length(header, card.len())),
@@ -141,7 +142,8 @@ fn the_largest_cards() {
         for curve in CURVES {
             let mut case = Case::of_kind(&mut random, Kind::Noise, rows, cols);
             (case.curve, case.levels) = (curve, 6);
-            accepted += check_list(&mut random, &written(&case), case.count(), 12);
+            let card = any_kind(&mut random, written(&case));
+            accepted += check_list(&mut random, &card, case.count(), 12);
         }
     }
     assert!(accepted > 100, "{accepted}");
@@ -215,7 +217,8 @@ fn any_previews() {
     cases.extend(LARGE_SIZES.map(|(rows, cols)| Case::of_size(&mut random, rows, cols)));
     let mut met = [0; 12];
     for case in cases {
-        let given = any_preview(&mut random, written(&case), case.count());
+        let card = any_kind(&mut random, written(&case));
+        let given = any_preview(&mut random, card, case.count());
         let (layer, [values, next]) = (given.layer, given.lengths);
         let mut memory = memory_of(given);
         let mut copy = memory.clone();

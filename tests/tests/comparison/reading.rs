@@ -4,6 +4,7 @@ use super::both::{read, show, written, Slices};
 use trace_card_tests::model::digits::weight;
 use trace_card_tests::model::{open, planes::whole_planes, Plan};
 use trace_card_tests::random::cases::{Case, CURVES, LARGE_SIZES};
+use trace_card_tests::random::losses::any_kind;
 use trace_card_tests::random::plans::plan_about;
 use trace_card_tests::random::sheets::Kind;
 use trace_card_tests::random::Random;
@@ -25,7 +26,7 @@ fn every_cut_of_small_cards() {
     let mut random = Random::new(511);
     for _ in 0..25 {
         let case = Case::small(&mut random);
-        let card = written(&case);
+        let card = any_kind(&mut random, written(&case));
         for length in 0..=card.len() {
             show_and_read(&mut random, &card[..length], case.count());
         }
@@ -40,7 +41,7 @@ fn cuts_of_the_largest_cards() {
             for kind in [Kind::Smooth, Kind::Noise] {
                 let mut case = Case::of_kind(&mut random, kind, rows, cols);
                 (case.curve, case.levels) = (curve, random.pick(&[3, 6]));
-                let card = written(&case);
+                let card = any_kind(&mut random, written(&case));
                 let header = open(&card).unwrap().header_length;
                 for _ in 0..4 {
                     let length = random.length(header, card.len());
@@ -92,7 +93,7 @@ fn damaged_planes() {
     let (mut refused, mut taken) = (0, 0);
     for _ in 0..1500 {
         let case = Case::small(&mut random);
-        let mut card = written(&case);
+        let mut card = any_kind(&mut random, written(&case));
         let header = open(&card).unwrap().header_length;
         if card.len() == header {
             continue;

@@ -4,6 +4,7 @@ use super::both::{read, refine, written, Slices};
 use trace_card_tests::boundary::PLAN;
 use trace_card_tests::model::{open, Plan};
 use trace_card_tests::random::cases::{Case, CURVES, LARGE_SIZES};
+use trace_card_tests::random::losses::any_kind;
 use trace_card_tests::random::plans::plan_within;
 use trace_card_tests::random::sheets::Kind;
 use trace_card_tests::random::Random;
@@ -41,7 +42,7 @@ fn small_cards_whole_and_cut() {
     let mut accepted = 0;
     for _ in 0..400 {
         let case = Case::small(&mut random);
-        let card = written(&case);
+        let card = any_kind(&mut random, written(&case));
         let header = open(&card).unwrap().header_length;
         let cut = if random.once_in(2) {
             random.length(header, card.len())
@@ -60,7 +61,7 @@ fn damaged_cards() {
     let mut met = 0;
     for _ in 0..400 {
         let case = Case::small(&mut random);
-        let mut card = written(&case);
+        let mut card = any_kind(&mut random, written(&case));
         let header = open(&card).unwrap().header_length;
         if card.len() > header {
             let place = header + random.below((card.len() - header) as u64) as usize;
@@ -95,7 +96,7 @@ fn the_largest_cards() {
         for curve in CURVES {
             let mut case = Case::of_kind(&mut random, Kind::Noise, rows, cols);
             (case.curve, case.levels) = (curve, 6);
-            let card = written(&case);
+            let card = any_kind(&mut random, written(&case));
             accepted += refine_in_turn(&mut random, &card, case.count(), 12);
         }
     }

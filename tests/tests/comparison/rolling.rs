@@ -9,6 +9,7 @@ use trace_card_tests::boundary::ANSWER;
 use trace_card_tests::model::digits::{GREATEST_COEFFICIENT, LEAST_COEFFICIENT};
 use trace_card_tests::model::{open, Refusal};
 use trace_card_tests::random::cases::{Case, CURVES, LARGE_SIZES};
+use trace_card_tests::random::losses::any_kind;
 use trace_card_tests::random::sheets::Kind;
 use trace_card_tests::random::Random;
 
@@ -36,7 +37,7 @@ fn every_cut_of_small_cards() {
     let (mut rolled, mut refused) = (0, 0);
     for _ in 0..25 {
         let case = Case::small(&mut random);
-        let card = written(&case);
+        let card = any_kind(&mut random, written(&case));
         for length in 0..=card.len() {
             let behind = random.pick(&[0, 0, 1, 24, 25, 26, 500]);
             match roll_with(&card[..length], case.count(), behind) {
@@ -56,7 +57,7 @@ fn the_largest_cards() {
             for kind in [Kind::Smooth, Kind::Noise, Kind::Ends] {
                 let mut case = Case::of_kind(&mut random, kind, rows, cols);
                 (case.curve, case.levels) = (curve, random.pick(&[0, 3, 6]));
-                let card = written(&case);
+                let card = any_kind(&mut random, written(&case));
                 let header = open(&card).unwrap().header_length;
                 let cut = random.length(header, card.len());
                 for length in [card.len(), cut, header] {

@@ -4,6 +4,7 @@ use super::common::{bench, planes_on_card};
 use trace_card_tests::model::open;
 use trace_card_tests::random::cases::Case;
 use trace_card_tests::random::damage::{damage_header, damaged_at};
+use trace_card_tests::random::losses;
 use trace_card_tests::random::Random;
 
 /// Opening damaged bytes never panics, refuses with 5, 6 or 7 only, and opens nothing that
@@ -17,6 +18,17 @@ fn check_damaged(card: &[u8]) -> bool {
             assert!(opened.levels <= 6 && opened.step <= 65_535);
             assert_eq!(opened.planes.len() as u64, 1 + 2 * opened.levels);
             assert!(opened.planes.iter().all(|&planes| planes <= 23));
+            let lines = card[..opened.header_length].split(|&byte| byte == 10);
+            assert_eq!(lines.count(), 7 + usize::from(opened.losses.is_some()) + 1);
+            if let Some(told) = &opened.losses {
+                let most = losses::most(&opened);
+                assert_eq!(told.concat().len(), most.len());
+                assert!(told
+                    .concat()
+                    .iter()
+                    .zip(most)
+                    .all(|(&loss, most)| loss <= most));
+            }
             let end = planes_on_card(&opened).last().map(|&(.., end)| end);
             let end = end.unwrap_or(opened.header_length);
             assert_eq!(end, opened.header_length + 32 * opened.cells as usize);
@@ -27,7 +39,7 @@ fn check_damaged(card: &[u8]) -> bool {
             match refused.number {
                 5 | 7 => assert_eq!(refused.details, [0, 0]),
                 6 => {
-                    assert!((1..=7).contains(&refused.details[0]));
+                    assert!((1..=8).contains(&refused.details[0]));
                     assert_eq!(refused.details[1], 0);
                 }
                 other => panic!("opening refused with {other}"),
@@ -40,7 +52,7 @@ fn check_damaged(card: &[u8]) -> bool {
 #[test]
 fn headers_damaged_byte_by_byte() {
     let mut random = Random::new(303);
-    let mut cards = vec![bench::card()];
+    let mut cards = vec![bench::card(), bench::written_card()];
     for _ in 0..8 {
         cards.push(Case::small(&mut random).write().card);
     }
@@ -63,9 +75,12 @@ fn headers_damaged_byte_by_byte() {
 #[test]
 fn headers_damaged_in_many_places() {
     let mut random = Random::new(304);
-    for _ in 0..30_000 {
-        let mut card = bench::card();
-        damage_header(&mut random, &mut card, bench::HEADER_BYTES);
+    for round in 0..60_000 {
+        let (mut card, header) = match round % 2 {
+            0 => (bench::card(), bench::HEADER_BYTES),
+            _ => (bench::written_card(), bench::WRITTEN_HEADER_BYTES),
+        };
+        damage_header(&mut random, &mut card, header);
         let length = random.length(0, card.len());
         check_damaged(&card);
         check_damaged(&card[..length]);

@@ -2,6 +2,7 @@
 
 use super::common::refusal;
 use super::{B, Q, V};
+use trace_card_tests::model::write::OUTPUT_BYTES;
 use trace_card_tests::model::{write, Curve, Refusal};
 
 /// Writes to filled slices of these lengths; the refusal must leave the filling.
@@ -59,7 +60,7 @@ fn writing_refuses_sizes() {
     ];
     assert_eq!(3_u64.wrapping_mul(12_297_829_382_473_034_411), 1);
     for (rows, cols) in sizes {
-        let refused = write_refused(&[0], rows, cols, 0, 0, 1, 1, 32_768);
+        let refused = write_refused(&[0], rows, cols, 0, 0, 1, 1, OUTPUT_BYTES);
         assert_eq!(refused, refusal(1, [0, 0]), "{rows} by {cols}");
     }
 }
@@ -73,7 +74,7 @@ fn writing_refuses_levels_and_steps() {
         (6, u64::MAX),
         (64, 65_536),
     ] {
-        let refused = write_refused(&[0; 6], 2, 3, levels, step, 6, 6, 32_768);
+        let refused = write_refused(&[0; 6], 2, 3, levels, step, 6, 6, OUTPUT_BYTES);
         assert_eq!(refused, refusal(2, [0, 0]));
     }
 }
@@ -81,14 +82,14 @@ fn writing_refuses_levels_and_steps() {
 #[test]
 fn writing_refuses_lengths() {
     for [samples, coefficients, values, output] in [
-        [5, 6, 6, 32_768],
-        [7, 6, 6, 32_768],
-        [0, 6, 6, 32_768],
-        [6, 5, 6, 32_768],
-        [6, 7, 6, 32_768],
-        [6, 6, 5, 32_768],
-        [6, 6, 7, 32_768],
-        [6, 6, 6, 32_767],
+        [5, 6, 6, OUTPUT_BYTES],
+        [7, 6, 6, OUTPUT_BYTES],
+        [0, 6, 6, OUTPUT_BYTES],
+        [6, 5, 6, OUTPUT_BYTES],
+        [6, 7, 6, OUTPUT_BYTES],
+        [6, 6, 5, OUTPUT_BYTES],
+        [6, 6, 7, OUTPUT_BYTES],
+        [6, 6, 6, OUTPUT_BYTES - 1],
         [6, 6, 6, 0],
     ] {
         let samples = vec![0; samples];
@@ -110,7 +111,7 @@ fn writing_refuses_lengths() {
         &mut output,
     )
     .unwrap() as usize;
-    let header = b"rows=2\ncols=3\nlevels=0\ncurve=linear\nstep=0\nplanes=0\ncells=0\n";
+    let header = b"rows=2\ncols=3\nlevels=0\ncurve=linear\nstep=0\nplanes=0\nloss=\ncells=0\n";
     assert_eq!(output[..length], header[..]);
     assert!(output[length..].iter().all(|&b| b == B));
     assert_eq!((coefficients, values), ([0; 6], [0; 6]));
@@ -126,7 +127,7 @@ fn writing_refuses_the_first_sample_out_of_range() {
             if first + 3 < 12 {
                 samples[first + 3] = i32::MIN;
             }
-            let refused = write_refused(&samples, 4, 3, 2, 7, 12, 12, 32_768);
+            let refused = write_refused(&samples, 4, 3, 2, 7, 12, 12, OUTPUT_BYTES);
             let (row, col) = (first as u64 / 3, first as u64 % 3);
             assert_eq!(refused, refusal(4, [row, col]));
         }
@@ -152,10 +153,10 @@ fn writing_refuses_in_turn() {
                 (true, _) => (u64::MAX, u64::MAX),
             };
             let (count, output) = match (is_set(3), variant) {
-                (false, _) => (6, 32_768),
-                (true, 0) => (5, 32_768),
-                (true, 1) => (6, 32_767),
-                (true, _) => (7, 32_768),
+                (false, _) => (6, OUTPUT_BYTES),
+                (true, 0) => (5, OUTPUT_BYTES),
+                (true, 1) => (6, OUTPUT_BYTES - 1),
+                (true, _) => (7, OUTPUT_BYTES),
             };
             let mut samples = vec![0; count];
             if is_set(4) {

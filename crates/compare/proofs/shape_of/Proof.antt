@@ -9,7 +9,7 @@ open-requires : tie.Need-open-requires
 open-requires c κs = search needs
 
 returns : tie.Need-returns
-returns c = ap (λ (o : Opening). o .header .shape) (c .before .before .«open» .ensures)
+returns c = ap (λ (o : Opening). o .header .shape) (c .before .before .«open» .ensures .0)
 
 pub shape-of-spec : {M : Type 1} → statement M
 shape-of-spec = tie.close (tie.spec open-requires returns)

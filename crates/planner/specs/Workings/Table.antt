@@ -20,9 +20,9 @@ pub record Layers : Type 0 where
   pub carry : ℕ → ℕ → ℕ
   pub charge : ℕ → ℕ → ℕ
 
--- those of a header, with layers past the last that have nothing and change nothing
-abbrev pub layersOf : Header → Layers
-layersOf h = record { planes = planesOf h; span = cellsAt (h .shape); carry = carryOf h; charge = chargeOf h }
+-- those of a header and its card's numbers, with layers past the last that have nothing and change nothing
+abbrev pub layersOf : Header → List ℕ → Layers
+layersOf h ls = record { planes = planesOf h; span = cellsAt (h .shape); carry = carryOf h; charge = chargeOf h ls }
 
 -- the cells of the first k layers' planes that a plan loads
 unfoldable pub cells : Layers → (ℕ → ℕ) → ℕ → ℕ
@@ -76,6 +76,13 @@ pub record Tried (L : Layers) (t : List ℕ) (k n : ℕ) : Type 0 where
 pub record Held (L : Layers) (k : ℕ) (held : List ℕ) (reached : ℕ) : Type 0 where
   pub long : length held ≡ rowLength
   pub is : (c : ℕ) → c ≤ reached → getD held c 0 ≡ L .carry k (best L k c)
+
+-- the first c entries of the pass are done: those at `to` on, f b being offered to the one at place b
+pub record Passed (f : ℕ → ℕ) (to : ℕ) (t₀ t : List ℕ) (c : ℕ) : Type 0 where
+  pub long : length t ≡ length t₀
+  pub done : (b : ℕ) → b < c → getD t (to + b) 0 ≡ min (getD t₀ (to + b) 0) (f b)
+  pub below : (i : ℕ) → i < to → getD t i 0 ≡ getD t₀ i 0
+  pub above : (i : ℕ) → to + c ≤ i → getD t i 0 ≡ getD t₀ i 0
 
 -- ---- the last row
 -- r is the first of a row's places at which f is within the limit, if there is one

@@ -13,7 +13,7 @@ use Rattle.preview.proofs.length_refusal.Tie as tie
 
 -- what `open` is refused for
 told : (o : tie.After-open) → detailsOf (o .«open» .result .refusal) ≡ opening (now (o .before .before .args .bytes)) .refused
-told o = ap (λ (x : Opening). x .refused) (o .«open» .ensures)
+told o = ap (λ (x : Opening). x .refused) (o .«open» .ensures .0)
 
 open-requires : tie.Need-open-requires
 open-requires c κs = search needs

@@ -44,7 +44,7 @@ returns c =
     let vs = now (s .args .values) in
     let page = now (s .args .page) in
     ap (λ (r : Reading). record { shown = r; page = page }) (c .short .ensures)
-    ∙ on-short qs vs page (now (s .args .bytes)) (o .«open» .result) (o .«open» .ensures) (m .page-length .ensures) (omega arith)
+    ∙ on-short qs vs page (now (s .args .bytes)) (o .«open» .result) (o .«open» .ensures .0) (m .page-length .ensures) (omega arith)
 
 show-requires : tie.Need-show-requires
 show-requires c κs = search needs
@@ -59,7 +59,7 @@ print-requires c κs =
     let m = M w in
     let o = O m in
     let s = S o in
-    can-print (now (s .args .coefficients)) (now (s .args .values)) (now (s .args .page)) (now (s .args .bytes)) (o .«open» .result) (o .«open» .ensures) (w .show .result) _ _ (w .show .ensures)
+    can-print (now (s .args .coefficients)) (now (s .args .values)) (now (s .args .page)) (now (s .args .bytes)) (o .«open» .result) (o .«open» .ensures .0) (w .show .result) _ _ (w .show .ensures)
     (ap (λ (r : Refusal). detailsOf r .number) (t .enum-told .given .1)) (m .page-length .ensures) (omega arith)
 
 same-length-3 : tie.Need-same-length-3
@@ -79,7 +79,7 @@ returns-2 c =
     let m = M w in
     let o = O m in
     let s = S o in
-    printed-is (now (s .args .coefficients)) (now (s .args .values)) (now (s .args .page)) (now (s .args .bytes)) (o .«open» .result) (o .«open» .ensures) (w .show .result) _ _ (w .show .ensures)
+    printed-is (now (s .args .coefficients)) (now (s .args .values)) (now (s .args .page)) (now (s .args .bytes)) (o .«open» .result) (o .«open» .ensures .0) (w .show .result) _ _ (w .show .ensures)
     (ap (λ (r : Refusal). detailsOf r .number) (t .enum-told .given .1)) (m .page-length .ensures) (omega arith) (p .print .ensures)
 
 same-length-6 : tie.Need-same-length-6
@@ -93,7 +93,7 @@ returns-3 c =
     let w = c .before .before .before in
     let o = O (M w) in
     let s = S o in
-    passed-on (now (s .args .coefficients)) (now (s .args .values)) (now (s .args .page)) (now (s .args .bytes)) (o .«open» .result) (o .«open» .ensures) (w .show .result) _ _ (w .show .ensures)
+    passed-on (now (s .args .coefficients)) (now (s .args .values)) (now (s .args .page)) (now (s .args .bytes)) (o .«open» .result) (o .«open» .ensures .0) (w .show .result) _ _ (w .show .ensures)
     (λ fine. refusing (w .show .result .refusal) (c .match .keys2) (ap (λ (r : Reading). r .refused .number) (w .show .ensures) ∙ fine))
 
 pub roll-spec : {M : Type 1} → statement M

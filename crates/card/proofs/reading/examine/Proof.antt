@@ -1,11 +1,12 @@
 -- By what `open` answers, as `show`: any refusal is passed on, and a card that was opened is examined on.
-use mathlib.Core.Path.{ap, _∙_}
+use mathlib.Core.Path.{refl, ap, _∙_}
 use borrow.Author.Needs.{needs}
 use denote.Ref.{now}
 use Rattle.order.specs.CardOrder.{wholeOf}
 use Rattle.header.specs.declared.Details.{Details}
 use Rattle.card.specs.Reading.{Reading, readOpened, showing}
-use Rattle.header.specs.Opening.{Opening}
+use Rattle.header.specs.Losses.{told}
+use Rattle.header.specs.Opening.{Opening, opening}
 use Rattle.header.proofs.Refusing.{refusing, header-right}
 use Rattle.card.proofs.ReadCall.{stops, opened-yes, header-here}
 use Rattle.card.proofs.reading.examine.Statement.{statement}
@@ -31,7 +32,7 @@ examine-opened-requires c κs =
     let t = c .before in
     let o = L t in
     let bs = now (S o .args .bytes) in
-    (header-right bs (o .«open» .result) (o .«open» .ensures) (t .enum-told .given .1), header-here bs (o .«open» .result) (o .«open» .ensures) (t .enum-told .given .1))
+    (header-right bs (o .«open» .result) _ (o .«open» .ensures .0) (t .enum-told .given .1), header-here bs (o .«open» .result) (o .«open» .ensures .0) (t .enum-told .given .1))
 
 returns : tie.Need-returns
 unfolding showing
@@ -39,10 +40,10 @@ returns c =
     let t = c .before .before in
     let o = L t in
     let s = S o in
-    c .examine-opened .ensures
+    c .examine-opened .ensures (told (opening (now (s .args .bytes)) .losses))
     ∙ ap why
-    (opened-yes (now (s .args .bytes)) (o .«open» .result) (o .«open» .ensures) (t .enum-told .given .1) (now (s .args .coefficients)) (now (s .args .values))
-    (λ h long. readOpened (now (s .args .coefficients)) (now (s .args .values)) (now (s .args .bytes)) h long (wholeOf (now (s .args .bytes)) h long)))
+    (opened-yes (now (s .args .bytes)) (o .«open» .result) (o .«open» .ensures .0) (t .enum-told .given .1) (now (s .args .coefficients)) (now (s .args .values))
+    (λ h ls long. readOpened (now (s .args .coefficients)) (now (s .args .values)) (now (s .args .bytes)) h ls long (wholeOf (now (s .args .bytes)) h long)) _ refl)
 
 returns-2 : tie.Need-returns-2
 unfolding showing
@@ -50,7 +51,7 @@ returns-2 c =
     let o = c .before in
     let s = S o in
     ap why
-    (stops (now (s .args .coefficients)) (now (s .args .values)) (o .«open» .result .refusal) _ (ap (λ (x : Opening). x .refused) (o .«open» .ensures)) _
+    (stops (now (s .args .coefficients)) (now (s .args .values)) (o .«open» .result .refusal) _ (ap (λ (x : Opening). x .refused) (o .«open» .ensures .0)) _
     (refusing (o .«open» .result .refusal) (c .match .keys2)))
 
 pub examine-spec : {M : Type 1} → statement M

@@ -36,18 +36,18 @@ returns : tie.Need-returns
 returns c =
     let b = c .before .before in
     let t = b .before .before .before .before .before in
-    let s = t .before .before in
+    let s = t .before .before .before in
     let h = s .args .header in
     let qs = now (s .args .coefficients) in
     let vs = now (s .args .values) in
-    finished-yes (s .args .refusal) (t .enum-told .given .1) h (s .args .plan) qs vs _ _
+    finished-yes (s .args .refusal) (t .enum-told .given .1) h (now (s .args .losses)) (s .args .plan) qs vs _ _
     (b .rebuild .ensures .1 ∙ ap (λ (more : List ℤ). rebuilding (h .shape) (h .curve) (h .step) more qs vs) (b .before .before .before .middles .ensures))
     (ap (λ (x : Bounding). x .figure) (c .error-bound .ensures))
 
 returns-2 : tie.Need-returns-2
 unfolding finished
 returns-2 c =
-    let s = c .before .before in
+    let s = c .before .before .before in
     let qs = now (s .args .coefficients) in
     let vs = now (s .args .values) in
     ap (λ (r : Reached). asReading r qs vs) (c .refused .ensures)

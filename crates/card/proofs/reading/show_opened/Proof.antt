@@ -15,7 +15,7 @@ use Rattle.card.proofs.reading.show_opened.Statement.{statement}
 use Rattle.card.proofs.reading.show_opened.Tie as tie
 
 abbrev S : tie.Else1 → tie.Start
-S e = e .before .before .before .before .before
+S e = e .before .before .before .before .before .before
 
 abbrev Qs : tie.Start → List ℤ
 Qs s = now (s .args .coefficients)
@@ -44,9 +44,9 @@ same-length-2 c = search needs
 returns : tie.Need-returns
 returns c =
     let g = c .before .before in
-    let s = g .before .before .before .before in
+    let s = g .before .before .before .before .before in
     ap (λ (r : Reached). asReading r (Qs s) (Vs s)) (c .refused .ensures)
-    ∙ read-short (s .args .header) (s .pre .0) (s .args .at) (Bs s) (s .pre .1) (Qs s) (Vs s) (sym (g .good-lengths .ensures) ∙ not-true (g .good-lengths .result) (c .before .if1 .taken)) (wholeOf (Bs s) (s .args .header) (s .args .at))
+    ∙ read-short (s .args .header) (s .pre .0) (now (s .args .losses)) (s .args .at) (Bs s) (s .pre .1) (Qs s) (Vs s) (sym (g .good-lengths .ensures) ∙ not-true (g .good-lengths .result) (c .before .if1 .taken)) (wholeOf (Bs s) (s .args .header) (s .args .at))
 
 load-whole-requires : tie.Need-load-whole-requires
 load-whole-requires c κs = search needs
@@ -67,7 +67,7 @@ returns-2 c =
     let e = l .before .before in
     let s = S e in
     f .finish .ensures
-    ∙ whole-read (s .args .header) (s .pre .0) (s .args .at) (Bs s) (s .pre .1) (Qs s) (Vs s) (good e) (l .load-whole .result .refusal) _ (l .load-whole .result .plan) (l .load-whole .ensures .0) (l .load-whole .ensures .1)
+    ∙ whole-read (s .args .header) (s .pre .0) (now (s .args .losses)) (s .args .at) (Bs s) (s .pre .1) (Qs s) (Vs s) (good e) (l .load-whole .result .refusal) _ (l .load-whole .result .plan) (l .load-whole .ensures .0) (l .load-whole .ensures .1)
 
 pub show-opened-spec : {M : Type 1} → statement M
 show-opened-spec =

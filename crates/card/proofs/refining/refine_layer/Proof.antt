@@ -21,7 +21,7 @@ use Rattle.card.proofs.refining.refine_layer.Statement.{statement}
 use Rattle.card.proofs.refining.refine_layer.Tie as tie
 
 abbrev S : tie.After-layer-count → tie.Start
-S c = c .before .before .before .before .before
+S c = c .before .before .before .before .before .before
 
 abbrev Qs : tie.Start → List ℤ
 Qs s = now (s .args .coefficients)
@@ -62,7 +62,7 @@ returns c =
     let n = c .before .before in
     let s = S n in
     ap (λ (r : Reached). asReading r (Qs s) (Vs s)) (c .refused .ensures)
-    ∙ refine-past (Qs s) (Vs s) (Bs s) (s .args .header) (s .args .at) (s .args .plan) (s .args .layer) (omega (arith, c .before .if1 .taken, count n))
+    ∙ refine-past (Qs s) (Vs s) (Bs s) (s .args .header) (now (s .args .losses)) (s .args .at) (s .args .plan) (s .args .layer) (omega (arith, c .before .if1 .taken, count n))
 
 mul-if2 : tie.Need-mul-if2
 mul-if2 c = omega (arith, layer-few c)
@@ -84,7 +84,7 @@ returns-2 c =
     let y = c .before .before in
     let s = S (y .before) in
     ap (λ (r : Reached). asReading r (Qs s) (Vs s)) (c .refused2 .ensures)
-    ∙ refine-none (Qs s) (Vs s) (Bs s) (s .args .header) (s .args .at) (s .args .plan) (s .args .layer) (layer-low y) (omega (arith, limit-is s, c .before .if2 .taken))
+    ∙ refine-none (Qs s) (Vs s) (Bs s) (s .args .header) (now (s .args .losses)) (s .args .at) (s .args .plan) (s .args .layer) (layer-low y) (omega (arith, limit-is s, c .before .if2 .taken))
 
 abbrev E : tie.After-counts → tie.Else2
 E c = c .before
@@ -98,7 +98,7 @@ few c = layer-few (E c .before)
 named : (c : tie.After-counts) → loads (A c .args .plan) (A c .args .layer) < planesOf (A c .args .header) (A c .args .layer)
 named c =
     let s = A c in
-    next-named (s .args .header) (s .pre .0 .0) (s .args .at) (Bs s) (s .args .plan) (s .args .layer) (s .pre .0 .1) (layer-low (E c .before)) (more (E c))
+    next-named (s .args .header) (s .pre .0 .0) (now (s .args .losses)) (s .args .at) (Bs s) (s .args .plan) (s .args .layer) (s .pre .0 .1) (layer-low (E c .before)) (more (E c))
 
 mul-p : tie.Need-mul-p
 mul-p c = omega (arith, few c)
@@ -141,7 +141,7 @@ returns-3 c =
     let n = a .before .before in
     let s = A n in
     f .finish .ensures
-    ∙ added-refine (s .args .header) (s .pre .0 .0) (s .args .at) (Bs s) (s .args .plan) (s .args .layer) (s .pre .0 .1) (layer-low (E n .before)) (more (E n)) (Qs s) (Vs s) (s .pre .1 .0) (s .pre .1 .1)
+    ∙ added-refine (s .args .header) (s .pre .0 .0) (now (s .args .losses)) (s .args .at) (Bs s) (s .args .plan) (s .args .layer) (s .pre .0 .1) (layer-low (E n .before)) (more (E n)) (Qs s) (Vs s) (s .pre .1 .0) (s .pre .1 .1)
     (a .add-plane .result) _ _ _ (omega arith) (a .add-plane .ensures) (w .with-plane .ensures)
 
 pub refine-layer-spec : {M : Type 1} → statement M

@@ -17,7 +17,7 @@ use Rattle.card.proofs.refining.refine_opened.Statement.{statement}
 use Rattle.card.proofs.refining.refine_opened.Tie as tie
 
 abbrev S : tie.After-first-refusal → tie.Start
-S c = c .before .before .before .before .before
+S c = c .before .before .before .before .before .before
 
 abbrev L : tie.After-enum-told → tie.After-first-refusal
 L t = t .before .before

@@ -13,7 +13,7 @@ details-of-requires : tie.Need-details-of-requires
 details-of-requires c κs = search needs
 
 returns : tie.Need-returns
-returns c = ap (λ (d : Details). d .number) (c .details-of .ensures) ∙ ap (λ (o : Opening). o .refused .number) (c .before .«open» .ensures)
+returns c = ap (λ (d : Details). d .number) (c .details-of .ensures) ∙ ap (λ (o : Opening). o .refused .number) (c .before .«open» .ensures .0)
 
 pub opening-number-spec : {M : Type 1} → statement M
 opening-number-spec = tie.close (tie.spec open-requires details-of-requires returns)

@@ -20,7 +20,7 @@ open-requires : tie.Need-open-requires
 open-requires c κs = search needs
 
 sizes : (o : tie.After-open) → Small (o .«open» .result .header .shape)
-sizes o = sheet-small (now (o .before .before .before .args .bytes)) (o .«open» .result) (o .«open» .ensures)
+sizes o = sheet-small (now (o .before .before .before .args .bytes)) (o .«open» .result) (o .«open» .ensures .0)
 
 points-requires : tie.Need-points-requires
 points-requires c κs = search needs
@@ -63,7 +63,7 @@ rolled : (w : tie.After-roll) → asRolling (w .roll .result) (w .roll .last .1 
 rolled w =
     let o = O (P w) in
     let s = S (P w) in
-    in-room (now (s .args .bytes)) (o .«open» .result) (o .«open» .ensures) (now (s .args .page)) (long (P w)) (s .pre .0) (s .pre .1) (w .roll .ensures)
+    in-room (now (s .args .bytes)) (o .«open» .result) (o .«open» .ensures .0) (now (s .args .page)) (long (P w)) (s .pre .0) (s .pre .1) (w .roll .ensures)
 
 details-of-requires : tie.Need-details-of-requires
 details-of-requires c κs = search needs
@@ -88,7 +88,7 @@ returns c =
     let bs = now (s .args .bytes) in
     let page = now (s .args .page) in
     let number = ap (λ (d : Details). d .number) (c .before .details-of .ensures) ∙ ap (λ (r : Rolling). r .shown .refused .number) (rolled w) ∙ number-is bs page (s .pre .2) in
-    let lines = page-long bs (o .«open» .result) (o .«open» .ensures) (c .page-length .ensures) in (
+    let lines = page-long bs (o .«open» .result) (o .«open» .ensures .0) (c .page-length .ensures) in (
       number,
       omega (arith, c .page-length .ensures, sizes o .0, sizes o .1),
       λ fine. ap₂ (λ (n : ℕ) (r : Rolling). take n (r .page)) lines (rolled w) ∙ lines-are bs page (s .pre .2) (sym number ∙ fine),

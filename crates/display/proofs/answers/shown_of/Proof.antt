@@ -20,7 +20,7 @@ open-requires : tie.Need-open-requires
 open-requires c κs = search needs
 
 sizes : (o : tie.After-open) → Small (o .«open» .result .header .shape)
-sizes o = sheet-small (now (o .before .before .args .bytes)) (o .«open» .result) (o .«open» .ensures)
+sizes o = sheet-small (now (o .before .before .args .bytes)) (o .«open» .result) (o .«open» .ensures .0)
 
 points-requires : tie.Need-points-requires
 points-requires c κs = search needs
@@ -76,8 +76,8 @@ returns c =
     let qs = w .show .last .1 .0 in
     let vs = w .show .last .1 .1 .0 in
     let told-is = w .show .ensures ∙ ap (λ (n : ℕ). showing (take n cs) (take n ws) (now (s .args .bytes))) (long p) in
-    let shown = shown-is (now (s .args .bytes)) (o .«open» .result) (o .«open» .ensures) (w .show .result) qs vs cs ws (s .pre .0) (s .pre .1) told-is in
-    let values = values-are (now (s .args .bytes)) (o .«open» .result) (o .«open» .ensures) (w .show .result) qs vs cs ws (s .pre .0) (s .pre .1) told-is in
+    let shown = shown-is (now (s .args .bytes)) (o .«open» .result) (o .«open» .ensures .0) (w .show .result) qs vs cs ws (s .pre .0) (s .pre .1) told-is in
+    let values = values-are (now (s .args .bytes)) (o .«open» .result) (o .«open» .ensures .0) (w .show .result) qs vs cs ws (s .pre .0) (s .pre .1) told-is in
     let number = ap (λ (d : Details). d .number) (c .before .details-of .ensures) in
     let all : length vs ≡ N p = w .show .kept .1 .1 .0 ∙ sym (slice-aggregate-show-2 (w .before)) in (
       (λ i. record { number = number i; shape = o .«open» .result .header .shape; plan = w .show .result .plan; figure = w .show .result .figure }) ∙ shown,

@@ -48,10 +48,10 @@ abbrev N′ : tie.After-points2 → ℕ
 N′ p = p .points2 .result
 
 sizes : (p : tie.After-points2) → Small (O p .«open» .result .header .shape)
-sizes p = sheet-small (now (S p .args .first)) (O p .«open» .result) (O p .«open» .ensures)
+sizes p = sheet-small (now (S p .args .first)) (O p .«open» .result) (O p .«open» .ensures .0)
 
 sizes′ : (p : tie.After-points2) → Small (O′ p .open2 .result .header .shape)
-sizes′ p = sheet-small (now (S p .args .second)) (O′ p .open2 .result) (O′ p .open2 .ensures)
+sizes′ p = sheet-small (now (S p .args .second)) (O′ p .open2 .result) (O′ p .open2 .ensures .0)
 
 long : (p : tie.After-points2) → N p ≡ points (O p .«open» .result .header .shape)
 long p = p .before .points .ensures ∙ sizes p .0
@@ -111,7 +111,7 @@ compared : (w : tie.After-compare) → C w ≡ seenBoth (now (S (P w) .args .fir
 compared w =
     let p = P w in
     let s = S p in
-    in-both (now (s .args .first)) (now (s .args .second)) (O p .«open» .result) (O′ p .open2 .result) (O p .«open» .ensures) (O′ p .open2 .ensures)
+    in-both (now (s .args .first)) (now (s .args .second)) (O p .«open» .result) (O′ p .open2 .result) (O p .«open» .ensures .0) (O′ p .open2 .ensures .0)
     {c = C w} (long p) (long′ p) (s .pre .0) (s .pre .1) (s .pre .2) (s .pre .3) (s .pre .4) (w .compare .ensures)
 
 -- the marks, at the front of their slice
@@ -131,7 +131,7 @@ marked-long : (w : tie.After-compare) → length (take (N (P w)) (Marked w)) ≡
 marked-long w = ap length (front w) ∙ all w ∙ long (P w)
 
 rows-few : (p : tie.After-points2) → let sh = O p .«open» .result .header .shape in sh .depth * sh .rows ≤ points sh
-rows-few p = few (now (S p .args .first)) (now (S p .args .second)) (O p .«open» .result) (O′ p .open2 .result) (O p .«open» .ensures) (O′ p .open2 .ensures)
+rows-few p = few (now (S p .args .first)) (now (S p .args .second)) (O p .«open» .result) (O′ p .open2 .result) (O p .«open» .ensures .0) (O′ p .open2 .ensures .0)
 
 mul-rows : tie.Need-mul-rows
 mul-rows c =
@@ -151,7 +151,7 @@ all-marks-requires c κs =
     let w = c .before .before .before .before .before .before .before .before .before in
     let p = P w in
     let s = S p in
-    can-put (now (s .args .first)) (now (s .args .second)) (O p .«open» .result) (O′ p .open2 .result) (O p .«open» .ensures) (O′ p .open2 .ensures)
+    can-put (now (s .args .first)) (now (s .args .second)) (O p .«open» .result) (O′ p .open2 .result) (O p .«open» .ensures .0) (O′ p .open2 .ensures .0)
     (marked w) (marked-long w) (now (s .args .page)) (s .pre .5)
 
 details-of-requires : tie.Need-details-of-requires
@@ -190,8 +190,8 @@ returns c =
     let bs′ = now (s .args .second) in
     let o = O p .«open» .result in
     let o′ = O′ p .open2 .result in
-    let e = O p .«open» .ensures in
-    let e′ = O′ p .open2 .ensures in
+    let e = O p .«open» .ensures .0 in
+    let e′ = O′ p .open2 .ensures .0 in
     let rows = o .header .shape .depth * o .header .shape .rows in
     let both = compared w in
     let number = ap (λ (d : Details). d .number) (c .details-of .ensures) ∙ ap (λ (c : Comparing). c .refused .number) both in

@@ -14,7 +14,7 @@ use Rattle.figure.proofs.bound.bounded.Statement.{statement}
 use Rattle.figure.proofs.bound.bounded.Tie as tie
 
 abbrev S : tie.After-first-over → tie.Start
-S c = c .before .before .before
+S c = c .before .before .before .before
 
 none-is : (c : tie.Else1) → firstOver (planesOf (S (c .before) .args .header)) (loads (S (c .before) .args .plan)) ≡ layersMost
 none-is c =
@@ -28,7 +28,7 @@ returns : tie.Need-returns
 returns c =
     let f = c .before in
     let s = S f in
-    ap (λ (p : ℕ). notBounded (refusal 9 p 0)) (f .first-over .ensures) ∙ bound-over (s .args .header) (s .args .plan) (omega (arith, f .first-over .ensures, c .if1 .taken))
+    ap (λ (p : ℕ). notBounded (refusal 9 p 0)) (f .first-over .ensures) ∙ bound-over (s .args .header) (s .args .losses .now) (s .args .plan) (omega (arith, f .first-over .ensures, c .if1 .taken))
 
 figure-of-requires : tie.Need-figure-of-requires
 figure-of-requires c κs = (S (c .before) .pre, none-is c)
@@ -36,7 +36,7 @@ figure-of-requires c κs = (S (c .before) .pre, none-is c)
 returns-2 : tie.Need-returns-2
 returns-2 c =
     let s = S (c .before .before) in
-    ap (λ (n : ℕ). record { refused = refusal 0 0 0; figure = n }) (c .figure-of .ensures) ∙ bound-is (s .args .header) (s .args .plan) (none-is (c .before))
+    ap (λ (n : ℕ). record { refused = refusal 0 0 0; figure = n }) (c .figure-of .ensures) ∙ bound-is (s .args .header) (s .args .losses .now) (s .args .plan) (none-is (c .before))
 
 pub bounded-spec : {M : Type 1} → statement M
 bounded-spec =

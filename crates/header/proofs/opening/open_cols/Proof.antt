@@ -62,11 +62,11 @@ open-levels-requires c κs = (A (R (c .before)) .pre .0, told (c .before) .least
 
 returns : tie.Need-returns
 unfolding openingCols
-returns c = rw (line (c .before .before .before), c .before .enum-told .given .1, c .refused .ensures)
+returns c = rw (line (c .before .before .before), c .before .enum-told .given .1, c .refused .ensures .0)
 
 returns-2 : tie.Need-returns-2
 unfolding openingCols
-returns-2 c = rw (line (c .before .before .before), c .before .enum-told2 .given .1, c .refused2 .ensures)
+returns-2 c = rw (line (c .before .before .before), c .before .enum-told2 .given .1, c .refused2 .ensures .0)
 
 returns-3 : tie.Need-returns-3
 unfolding openingCols

@@ -1,9 +1,10 @@
 -- By cases on the tests: `find` gives the end of the line, `starts_with` its key and `read_joined` its counts, which are the parts of the line. Each count is at
 -- most `placesMost`, so the cells fit.
 use mathlib.Core.Bool.{true}
+use mathlib.Core.Option.{none}
 use mathlib.Core.List.{List, _++_}
 use mathlib.Core.Path.{_≡_, refl, sym, ap, _∙_}
-use Prim.Native.Nat.{ℕ, _-_, _≤_}
+use Prim.Native.Nat.{ℕ, _+_, _-_, _≤_}
 use native.Mathlib.Omega.{arith}
 use lib.ListN.{length, take, drop, length-take}
 use borrow.Author.Tests.{not-true, not-false}
@@ -14,17 +15,19 @@ use Rattle.sheet.specs.Lists.{tabulate}
 use Rattle.sheet.specs.Sheet.{layers}
 use Rattle.sheet.proofs.Accepting.{accepted-yes, layers-few, count-is}
 use Rattle.sheet.proofs.Lists.{length-tabulate}
+use Rattle.text.specs.Text.{padded}
 use Rattle.text.specs.Line.{starts}
 use Rattle.text.proofs.Lines.{tail}
 use Rattle.text.proofs.Search.{starts-length}
 use Rattle.header.specs.Header.{ascii, asciiFrom, cellsOf}
 use Rattle.header.specs.Workings.{spansOf, cellsBy, limitsBy}
-use Rattle.header.specs.Opening.{planesMost}
-use Rattle.header.proofs.Total.{cells-most, span-most}
+use Rattle.header.specs.Opening.{Opening, opened, takingNumbers, planesMost, limits, openingPlanes}
+use Rattle.header.proofs.Total.{span-most}
 use Rattle.header.proofs.Cells.{cells-by}
 use Rattle.header.proofs.WellFormed.{limits-by}
 use Rattle.header.proofs.Taking.{starts-as}
-use Rattle.header.proofs.Counting.{Kept, kept, kept-few, not-read, planes-short, planes-other, planes-wrong, planes-right}
+use Rattle.header.proofs.HeaderLines.{headed}
+use Rattle.header.proofs.Counting.{Kept, kept, kept-few, not-read, numbers-short, numbers-other, numbers-wrong, numbers-right}
 use Rattle.header.proofs.opening.open_planes.Statement.{statement}
 use Rattle.header.proofs.opening.open_planes.Tie as tie
 
@@ -39,6 +42,14 @@ at f = A f .args .at
 
 abbrev sh : tie.After-find → Shape
 sh f = A f .args .shape
+
+-- what line 6 hands on, and the line by its parts
+abbrev go : tie.After-find → List ℕ → ℕ → Opening
+go f counts n = opened (headed (sh f) (A f .args .curve) (A f .args .step) (padded layersMost counts)) none (at f + n)
+
+line-is : (f : tie.After-find) → openingPlanes (bs f) (sh f) (A f .args .curve) (A f .args .step) (at f) ≡ takingNumbers 6 (ascii "planes=") (limits (sh f)) (drop (at f) (bs f)) (go f)
+unfolding openingPlanes
+line-is f = refl
 
 few : (f : tie.After-find) → layers (sh f) ≤ layersMost
 few f = layers-few (sh f) (accepted-yes (sh f) (A f .pre))
@@ -109,7 +120,8 @@ refused-requires c κs = search needs
 returns : tie.Need-returns
 returns c =
     let f = c .before .before in
-    rw (planes-short (bs f) (sh f) (A f .args .curve) (A f .args .step) (at f) (f .find .result) (f .find .ensures) (c .before .if1 .taken), c .refused .ensures)
+    let is = line-is f ∙ numbers-short 6 (ascii "planes=") (limits (sh f)) (bs f) (at f) (f .find .result) (f .find .ensures) (go f) (c .before .if1 .taken) in
+    rw (is, c .refused .ensures .0)
 
 sub-line : tie.Need-sub-line
 sub-line c = search needs
@@ -134,7 +146,8 @@ returns-2 c =
     let t = c .before .before in
     let e = E t in
     let f = e .before in
-    rw (planes-other (bs f) (sh f) (A f .args .curve) (A f .args .step) (at f) (f .find .result) (f .find .ensures) (e .if1 .left) (starts-is t ∙ not-true _ (c .before .if2 .taken)), c .refused2 .ensures)
+    let is = line-is f ∙ numbers-other 6 (ascii "planes=") (limits (sh f)) (bs f) (at f) (f .find .result) (f .find .ensures) (go f) (e .if1 .left) (starts-is t ∙ not-true _ (c .before .if2 .taken)) in
+    rw (is, c .refused2 .ensures .0)
 
 spans-of-requires : tie.Need-spans-of-requires
 spans-of-requires c κs = search needs
@@ -173,7 +186,8 @@ returns-3 c =
     let n = N r in
     let f = F n in
     let none-are = not-read (sh f) (few f) (n .layer-count .result) (all n) (n .before .limits .result) (limits-are n) (text r) (sym (not-true _ (t .if3 .taken)) ∙ r .read-joined .ensures .0) in
-    rw (planes-wrong (bs f) (sh f) (A f .args .curve) (A f .args .step) (at f) (f .find .result) (f .find .ensures) (E (K n .before) .if1 .left) (starts-yes (K n)) (text r) (behind r) none-are, c .refused3 .ensures)
+    let is = line-is f ∙ numbers-wrong 6 (ascii "planes=") (limits (sh f)) (bs f) (at f) (f .find .result) (f .find .ensures) (go f) (E (K n .before) .if1 .left) (starts-yes (K n)) (text r) (behind r) none-are in
+    rw (is, c .refused3 .ensures .0)
 
 cells-of-requires : tie.Need-cells-of-requires
 cells-of-requires c κs =
@@ -188,24 +202,20 @@ named m =
     let f = F (N r) in
     m .cells-of .ensures ∙ ap (λ (spans : List ℕ). cellsBy spans (planes r)) (spans-are (N r)) ∙ cells-by (sh f) (A f .pre) (planes r)
 
-add-open-cells : tie.Need-add-open-cells
-add-open-cells c = search needs
-
-open-cells-requires : tie.Need-open-cells-requires
-open-cells-requires c κs =
-    let e = c .before in
-    let r = e .before .before in
-    let f = F (N r) in
-    omega (arith, named c, cells-most (sh f) (A f .pre) (planes r) (λ k _. kept-few (few f) (stored e) k))
+add-t13 : tie.Need-add-t13
+add-t13 c = search needs
 
 returns-4 : tie.Need-returns-4
 returns-4 c =
-    let m = c .before in
-    let e = m .before in
+    let e = c .before in
     let r = e .before .before in
     let n = N r in
     let f = F n in
-    rw (planes-right (bs f) (sh f) (A f .args .curve) (A f .args .step) (at f) (f .find .result) (f .find .ensures) (E (K n .before) .if1 .left) (starts-yes (K n)) (text r) (behind r) (planes r) (stored e), ← named m) (c .open-cells .ensures)
+    let k = stored e in
+    let end = f .find .result in
+    let is = line-is f ∙ numbers-right 6 (ascii "planes=") (limits (sh f)) (bs f) (at f) end (f .find .ensures) (go f) (E (K n .before) .if1 .left) (starts-yes (K n)) (text r) (behind r) (k .counts) (k .read-is) in
+    let next : at f + (end - at f + 1) ≡ end + 1 = omega (arith, f .find .ensures) in
+    rw (is, next, ← k .planes-are, named c)
 
 pub open-planes-spec : {M : Type 1} → statement M
 open-planes-spec =
@@ -233,6 +243,5 @@ open-planes-spec =
     refused-requires-3
     returns-3
     cells-of-requires
-    add-open-cells
-    open-cells-requires
+    add-t13
     returns-4)

@@ -54,11 +54,11 @@ open-planes-requires c κs = search needs
 
 returns : tie.Need-returns
 unfolding openingStep
-returns c = rw (line (c .before .before .before), c .before .enum-told .given .1, c .refused .ensures)
+returns c = rw (line (c .before .before .before), c .before .enum-told .given .1, c .refused .ensures .0)
 
 returns-2 : tie.Need-returns-2
 unfolding openingStep
-returns-2 c = rw (line (c .before .before .before), c .before .enum-told2 .given .1, c .refused2 .ensures)
+returns-2 c = rw (line (c .before .before .before), c .before .enum-told2 .given .1, c .refused2 .ensures .0)
 
 returns-3 : tie.Need-returns-3
 unfolding openingStep

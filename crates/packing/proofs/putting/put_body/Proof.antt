@@ -12,7 +12,7 @@ use Rattle.header.specs.Header.{placesMost}
 use Rattle.order.specs.CardOrder.{atPlace, downFrom, inOrder}
 use Rattle.order.proofs.Listed.{down-more}
 use Rattle.text.proofs.Stores.{sets-sets}
-use Rattle.packing.specs.Workings.Words.{wordPlane}
+use Rattle.packing.specs.Workings.Words.{rowPlane}
 use Rattle.packing.proofs.putting.put_body.Statement.{statement}
 use Rattle.packing.proofs.putting.put_body.Tie as tie
 
@@ -21,8 +21,8 @@ abbrev Left : Header → List ℕ → List ℕ → ℕ → List ℕ → ℕ → 
 Left h ws d at out left to =
     (left ≤ placesMost)
     × (length out ≡ length d)
-    × (to + length (downFrom h (wordPlane (h .shape) ws) left) ≡ at + length (inOrder h (wordPlane (h .shape) ws)))
-    × (sets out to (downFrom h (wordPlane (h .shape) ws) left) ≡ sets d at (inOrder h (wordPlane (h .shape) ws)))
+    × (to + length (downFrom h (rowPlane (h .shape) ws) left) ≡ at + length (inOrder h (rowPlane (h .shape) ws)))
+    × (sets out to (downFrom h (rowPlane (h .shape) ws) left) ≡ sets d at (inOrder h (rowPlane (h .shape) ws)))
 
 from-top : (h : Header) (ws d : List ℕ) (at left : ℕ) → left ≡ placesMost → Left h ws d at d left at
 from-top h ws d at left e = rw e (omega arith, refl, refl, refl)
@@ -40,24 +40,24 @@ abbrev H : tie.Start Inv-loop μ-loop → Header
 H s = s .args .header
 
 abbrev Places : tie.At-loop Inv-loop μ-loop → ℕ → List ℕ
-Places l n = downFrom (H (S l)) (wordPlane (H (S l) .shape) (now (S l .args .words))) n
+Places l n = downFrom (H (S l)) (rowPlane (H (S l) .shape) (now (S l .args .rows))) n
 
 -- the planes of the next place, and those below it
 next : tie.At-loop Inv-loop μ-loop → List ℕ
-next l = atPlace (H (S l)) (wordPlane (H (S l) .shape) (now (S l .args .words))) (l .loop .left - 1) (layers (H (S l) .shape))
+next l = atPlace (H (S l)) (rowPlane (H (S l) .shape) (now (S l .args .rows))) (l .loop .left - 1) (layers (H (S l) .shape))
 
 split : (l : tie.At-loop Inv-loop μ-loop) → 0 < l .loop .left → Places l (l .loop .left) ≡ next l ++ Places l (l .loop .left - 1)
 unfolding next
 split l h =
     let e : l .loop .left ≡ suc (l .loop .left - 1) = omega arith in
-    ap (Places l) e ∙ down-more (H (S l)) (wordPlane (H (S l) .shape) (now (S l .args .words))) (l .loop .left - 1)
+    ap (Places l) e ∙ down-more (H (S l)) (rowPlane (H (S l) .shape) (now (S l .args .rows))) (l .loop .left - 1)
 
 split-length : (l : tie.At-loop Inv-loop μ-loop) → 0 < l .loop .left → length (Places l (l .loop .left)) ≡ length (next l) + length (Places l (l .loop .left - 1))
 split-length l h = ap length (split l h) ∙ length-append (next l) (Places l (l .loop .left - 1))
 
 loop-holds : tie.Need-loop-holds Inv-loop μ-loop
 loop-holds c = let s = c .before .before in
-    from-top (H s) (now (s .args .words)) (now (s .args .out)) (s .args .at) _ (omega arith)
+    from-top (H s) (now (s .args .rows)) (now (s .args .out)) (s .args .at) _ (omega arith)
 
 sub-left : tie.Need-sub-left Inv-loop μ-loop
 sub-left c = omega arith

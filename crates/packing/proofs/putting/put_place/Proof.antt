@@ -15,9 +15,9 @@ use Rattle.header.specs.declared.Header.{Header}
 use Rattle.header.specs.Header.{cellPoints, planesOf, planeCells}
 use Rattle.order.specs.CardOrder.{atPlace}
 use Rattle.header.proofs.Cells.{cells-there}
-use Rattle.packing.specs.Workings.Words.{wordsMost, blockStart, wordPlane}
+use Rattle.packing.specs.Workings.Words.{wordsMost, blockStart, rowPlane}
 use Rattle.packing.proofs.Blocks.{block-none, block-next, block-room}
-use Rattle.packing.proofs.FlatPlanes.{words-room, Laid, laid-none, laid-yes, laid-no, laid-all}
+use Rattle.packing.proofs.FlatPlanes.{rows-room, Laid, laid-none, laid-yes, laid-no, laid-all}
 use Rattle.packing.proofs.putting.put_place.Statement.{statement}
 use Rattle.packing.proofs.putting.put_place.Tie as tie
 
@@ -60,14 +60,14 @@ room a = let l = I a .before in
 
 same : (l : tie.At-loop Inv-loop μ-loop) → length (l .loop .out) ≡ length (now (S l .args .out))
 same l = let s = S l in
-    ap length (l .loop .inv .2 .stands) ∙ length-sets (now (s .args .out)) (s .args .at) (atPlace (H s) (wordPlane (sh s) (now (s .args .words))) (s .args .p) (l .loop .k))
+    ap length (l .loop .inv .2 .stands) ∙ length-sets (now (s .args .out)) (s .args .at) (atPlace (H s) (rowPlane (sh s) (now (s .args .rows))) (s .args .p) (l .loop .k))
 
 layer-count-requires : tie.Need-layer-count-requires Inv-loop μ-loop
 layer-count-requires c κs = search needs
 
 loop-holds : tie.Need-loop-holds Inv-loop μ-loop
 loop-holds c = let s = c .before .before .before .before in
-    (omega arith, omega (arith, block-none (sh s)), laid-none (H s) (now (s .args .words)) (s .args .p) (now (s .args .out)) (s .args .at))
+    (omega arith, omega (arith, block-none (sh s)), laid-none (H s) (now (s .args .rows)) (s .args .p) (now (s .args .out)) (s .args .at))
 
 plane-cells-requires : tie.Need-plane-cells-requires Inv-loop μ-loop
 plane-cells-requires c κs = search needs
@@ -87,7 +87,7 @@ put-plane-requires c κs = let a = c .before .before .before in
       s .pre .0 .1,
       omega (arith, room a),
       omega (arith, room a, s .pre .0 .2),
-      omega (arith, cells-is a, same l, l .loop .inv .2 .ends, words-room (H s) (now (s .args .words)) (s .args .p) (l .loop .k) inside has, s .pre .1),
+      omega (arith, cells-is a, same l, l .loop .inv .2 .ends, rows-room (H s) (now (s .args .rows)) (s .args .p) (l .loop .k) inside has, s .pre .1),
     )
 
 mul-start : tie.Need-mul-start Inv-loop μ-loop
@@ -111,10 +111,10 @@ loop-again c = let a = c .before .before in
       omega (arith, cells-is a, i .1, block-next (sh s) (l .loop .k)),
       ⊎-elim
           (λ w.
-          laid-yes (H s) (now (s .args .words)) (s .args .p) (now (s .args .out)) (s .args .at) (l .loop .k) (l .loop .start) (a .plane-cells .result) (l .loop .to) (c .if1 .to) (l .loop .out) (c .if1 .out)
+          laid-yes (H s) (now (s .args .rows)) (s .args .p) (now (s .args .out)) (s .args .at) (l .loop .k) (l .loop .start) (a .plane-cells .result) (l .loop .to) (c .if1 .to) (l .loop .out) (c .if1 .out)
           (omega (arith, w .0 .taken)) (i .1) (cells-is a) (i .2) (omega (arith, w .6, w .2 .ensures .0)) (w .5 ∙ w .2 .ensures .1))
           (λ w.
-          laid-no (H s) (now (s .args .words)) (s .args .p) (now (s .args .out)) (s .args .at) (l .loop .k) (l .loop .to) (c .if1 .to) (l .loop .out) (c .if1 .out)
+          laid-no (H s) (now (s .args .rows)) (s .args .p) (now (s .args .out)) (s .args .at) (l .loop .k) (l .loop .to) (c .if1 .to) (l .loop .out) (c .if1 .out)
           (omega (arith, w .0 .left)) (i .2) (w .2) (w .1))
           (c .if1 .came),
     )
@@ -125,7 +125,7 @@ same-length c = same (c .before)
 returns : tie.Need-returns Inv-loop μ-loop
 returns c = let l = c .before in
     let s = S l in
-    let all = laid-all (H s) (now (s .args .words)) (s .args .p) (now (s .args .out)) (s .args .at) (l .loop .k) (l .loop .to) (l .loop .out) (omega (arith, count l)) (l .loop .inv .2) in
+    let all = laid-all (H s) (now (s .args .rows)) (s .args .p) (now (s .args .out)) (s .args .at) (l .loop .k) (l .loop .to) (l .loop .out) (omega (arith, count l)) (l .loop .inv .2) in
     (all .ends, all .stands)
 
 pub put-place-spec : {M : Type 1} → statement M

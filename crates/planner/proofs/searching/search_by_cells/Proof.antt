@@ -1,10 +1,12 @@
 -- The table is filled, so its last row has what the layers can stand at: the first of the least entries for so many cells is reached, and the plan that is read off from there is the best by cells.
+use mathlib.Core.List.{List}
 use mathlib.Core.Path.{_≡_}
-use Prim.Native.Nat.{_<_}
+use Prim.Native.Nat.{ℕ, _<_}
 use native.Mathlib.Omega.{arith}
 use borrow.Author.Needs.{needs}
 use lib.ListN.{length}
 use Rattle.header.specs.Plan.{layersMost}
+use Rattle.figure.proofs.Numbers.{Small}
 use Rattle.planner.specs.Planning.{bestByCells}
 use Rattle.planner.specs.Workings.Table.{layersOf, LeastWithin, rowLength, none, best}
 use Rattle.planner.proofs.LastRow.{least-best}
@@ -17,17 +19,23 @@ abbrev F : tie.After-least-within → tie.After-fill
 F c = c .before .before .before .before .before
 
 abbrev S : tie.After-fill → tie.Start
-S c = c .before .before .before
+S c = c .before .before .before .before
+
+abbrev Ls : tie.After-fill → List ℕ
+Ls c = S c .args .losses .now
+
+known : (c : tie.After-fill) → Small (Ls c)
+known c i = omega (arith, c .before .before .before .shared-slice-known .given i)
 
 -- what is found
-first : (c : tie.After-least-within) → LeastWithin (best (layersOf (S (F c) .args .header)) layersMost) (c .before .before .row-end .result) (c .least-within .result)
-first c = least-best (layersOf (S (F c) .args .header)) _ (F c .fill .ensures) (c .before .before .row-end .result) (c .least-within .result) (c .before .before .row-end .ensures .inside) (c .least-within .ensures)
+first : (c : tie.After-least-within) → LeastWithin (best (layersOf (S (F c) .args .header) (Ls (F c))) layersMost) (c .before .before .row-end .result) (c .least-within .result)
+first c = least-best (layersOf (S (F c) .args .header) (Ls (F c))) _ (F c .fill .ensures) (c .before .before .row-end .result) (c .least-within .result) (c .before .before .row-end .ensures .inside) (c .least-within .ensures)
 
 inside : (c : tie.After-least-within) → c .least-within .result < rowLength
 inside c = omega (arith, first c .inside, c .before .before .row-end .ensures .inside)
 
-reached : (c : tie.After-least-within) → best (layersOf (S (F c) .args .header)) layersMost (c .least-within .result) < none
-reached c = let s = S (F c) in cells-reached (s .args .header) (s .pre) (c .before .before .row-end .result) (c .least-within .result) (first c)
+reached : (c : tie.After-least-within) → best (layersOf (S (F c) .args .header) (Ls (F c))) layersMost (c .least-within .result) < none
+reached c = let s = S (F c) in cells-reached (s .args .header) (s .pre) (Ls (F c)) (known (F c)) (c .before .before .row-end .result) (c .least-within .result) (first c)
 
 -- the arrays are as long as their types say
 long : (s : tie.Start) → length (s .args .header .planes) ≡ layersMost
@@ -68,8 +76,8 @@ returns c =
     let r = c .before .before in
     let s = S (F r) in
     let h = s .args .header in
-    found-answer h (bestByCells h (s .args .most)) (c .plan-in .result) (r .least-within .result) _ (c .plan-in .ensures .1)
-    (by-cells h (s .pre) (long s) (s .args .most) (r .before .before .row-end .result) (r .least-within .result) (c .plan-in .result .plan .planes)
+    found-answer h (Ls (F r)) (bestByCells h (Ls (F r)) (s .args .most)) (c .plan-in .result) (r .least-within .result) _ (c .plan-in .ensures .1)
+    (by-cells h (s .pre) (Ls (F r)) (known (F r)) (long s) (s .args .most) (r .before .before .row-end .result) (r .least-within .result) (c .plan-in .result .plan .planes)
     (r .before .before .row-end .ensures) (first r) (c .plan-in .ensures .0) (long-plan c))
 
 pub search-by-cells-spec : {M : Type 1} → statement M

@@ -26,25 +26,25 @@ S l = l .before .before .before .before
 
 -- the entry that a turn reads
 inside : (c : tie.In-loop Inv-loop μ-loop) → S (c .before) .args .k * rowLength + c .before .loop .c < length (S (c .before) .args .t .now)
-inside c = let s = S (c .before) in omega (arith, c .loop-test .taken, s .pre .0 .0, s .pre .0 .1, s .pre .1 .long)
+inside c = let s = S (c .before) in omega (arith, c .loop-test .taken, s .pre .0, s .pre .1, s .pre .3)
 
 rule-of-requires : tie.Need-rule-of-requires Inv-loop μ-loop
 rule-of-requires c κs = search needs
 
 add-c-end : tie.Need-add-c-end Inv-loop μ-loop
-add-c-end c = omega (arith, c .before .before .before .pre .0 .1)
+add-c-end c = omega (arith, c .before .before .before .pre .1)
 
 loop-holds : tie.Need-loop-holds Inv-loop μ-loop
 loop-holds c = (omega arith, refl, below-none _)
 
 mul-carried : tie.Need-mul-carried Inv-loop μ-loop
-mul-carried c = omega (arith, S (c .before) .pre .0 .0)
+mul-carried c = omega (arith, S (c .before) .pre .0)
 
 add-carried : tie.Need-add-carried Inv-loop μ-loop
-add-carried c = let s = S (c .before) in omega (arith, c .loop-test .taken, s .pre .0 .0, s .pre .0 .1)
+add-carried c = let s = S (c .before) in omega (arith, c .loop-test .taken, s .pre .0, s .pre .1)
 
 mul-carried-2 : tie.Need-mul-carried-2 Inv-loop μ-loop
-mul-carried-2 c = let s = S (c .before) in omega (arith, c .loop-test .taken, s .pre .0 .0, s .pre .0 .1)
+mul-carried-2 c = let s = S (c .before) in omega (arith, c .loop-test .taken, s .pre .0, s .pre .1)
 
 shared-slice-read-carried : tie.Need-shared-slice-read-carried Inv-loop μ-loop
 shared-slice-read-carried c = inside (c .before)
@@ -56,13 +56,13 @@ abbrev I : tie.After-carried Inv-loop μ-loop → tie.In-loop Inv-loop μ-loop
 I c = c .before .before
 
 mul-held : tie.Need-mul-held Inv-loop μ-loop
-mul-held c = let s = S (I c .before) in omega (arith, I c .loop-test .taken, s .pre .0 .1)
+mul-held c = let s = S (I c .before) in omega (arith, I c .loop-test .taken, s .pre .1)
 
 slice-write-held : tie.Need-slice-write-held Inv-loop μ-loop
-slice-write-held c = let s = S (I c .before) in omega (arith, I c .loop-test .taken, I c .before .loop .inv .1, s .pre .0 .1, s .pre .0 .2)
+slice-write-held c = let s = S (I c .before) in omega (arith, I c .loop-test .taken, I c .before .loop .inv .1, s .pre .1, s .pre .2)
 
 add-c : tie.Need-add-c Inv-loop μ-loop
-add-c c = let s = S (I c .before) in omega (arith, I c .loop-test .taken, s .pre .0 .1)
+add-c c = let s = S (I c .before) in omega (arith, I c .loop-test .taken, s .pre .1)
 
 loop-less : tie.Need-loop-less Inv-loop μ-loop
 loop-less c = omega (arith, I c .loop-test .taken)
@@ -87,12 +87,12 @@ returns c =
     let s = S l in
     let h = s .args .header in
     let k = s .args .k in
-    record {
-      long = l .loop .inv .1 ∙ s .pre .0 .2;
+    λ ls rows. record {
+      long = l .loop .inv .1 ∙ s .pre .2;
       is = λ b m.
-          let held = s .pre .1 .held k b (le-refl k) (omega (arith, s .pre .0 .1)) in
+          let held = rows .held k b (le-refl k) (omega (arith, s .pre .1)) in
           l .loop .inv .2 b (omega (arith, c .loop-test .left))
-          ∙ carried-told h k (l .before .rule-of .result) _ (l .before .rule-of .ensures) (omega (arith, held, best-most (layersOf h) k b))
+          ∙ carried-told h k (l .before .rule-of .result) _ (l .before .rule-of .ensures) (omega (arith, held, best-most (layersOf h ls) k b))
           ∙ ap (carryOf h k) held;
     }
 
