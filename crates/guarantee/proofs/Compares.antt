@@ -41,8 +41,8 @@ module _ {rows cols : ℕ} (x : Pulled rows cols) where
   abbrev sh : Shape
   sh = sheet_of rows cols x.levels
 
-  demand : Demand3 x.samples sh x.curve x.step x.coefficients x.values x.output x.lined
-  demand = guarantee.demand x.samples rows cols x.levels x.curve x.step x.coefficients x.values x.output x.accepted x.lined
+  demand : Demand3 x.samples sh x.curve x.step x.coefficients x.values x.output
+  demand = guarantee.demand x.samples rows cols x.levels x.curve x.step x.coefficients x.values x.output x.accepted
 
   shape_is : (opening (pulled_card x)).header.shape ≡ sh
   shape_is = ap (λ (o : Opening). o.header.shape) (demand.opens x.byte x.behind x.there)

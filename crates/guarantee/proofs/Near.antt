@@ -1,7 +1,6 @@
--- How far what is read is from what was written, where the planes loaded have the bits written. A coefficient as it counts has its own digits above and the middle for the missing ones below, so it is near by how far those are from their middle, which is at most what was measured, and so what the card tells; and the error law of a sheet carries that to the values.
+-- How far what is read is from what was written, where the planes loaded have the bits written. A coefficient as it counts has its own digits above and the middle for the missing ones below, so it is near by how far those are from their middle, which is at most what was measured; and the error law of a sheet carries that to the values.
 use mathlib.Core.Bool.{true}
 use mathlib.Core.List.{List}
-use mathlib.Core.Option.{Option}
 use mathlib.Core.Path.{◌≡◌, refl, sym, ◌∙◌, subst}
 use Prim.Native.Nat.{ℕ, ◌<◌, ◌≤◌}
 use native.Mathlib.Omega.{arith}
@@ -25,11 +24,10 @@ use Rattle.layers.proofs.Standing.{sheet-samples}
 use Rattle.header.specs.declared.Header.{Header}
 use Rattle.header.specs.declared.Plan.{Plan}
 use Rattle.header.specs.Header.{planes_of}
-use Rattle.header.specs.Losses.{told}
 use Rattle.header.specs.Plan.{loads, missing}
 use Rattle.figure.specs.Figure.{figure_of}
 use Rattle.header.proofs.WellFormed.{layers-few}
-use Rattle.packing.specs.Planes.{header_for, measured_loss}
+use Rattle.packing.specs.Planes.{header_for, measured_loss, losses_for}
 use Rattle.loading.specs.InBytes.{coef_read, coefs_read}
 use Rattle.packing.proofs.Cards.{counts-at}
 use Rattle.loading.proofs.Loads.{coefs-long}
@@ -40,7 +38,7 @@ use Rattle.guarantee.proofs.Coefficients.{bits, length-bits, bit-at, coef-is, co
 use Rattle.guarantee.proofs.Carried.{Carries, carried-digit}
 use Rattle.guarantee.proofs.Enough.{planes-hold}
 use Rattle.guarantee.proofs.Fits.{Fits, fits-right, samples-fit}
-use Rattle.guarantee.proofs.Told.{Tells, told-figure}
+use Rattle.guarantee.proofs.Told.{told-figure}
 
 module _ {sh : Shape} {e : ℕ} {qs : List ℤ} (c : Fits sh e qs) (curve : Curve) {long : ℕ} {bs : List ℕ} {plan : Plan}
     (carries : Carries (header_for sh curve e qs) long bs qs plan) where
@@ -92,14 +90,11 @@ module _ {sh : Shape} {e : ℕ} {g : List ℤ} (x : Samples sh e g) (curve : Cur
   abbrev head : Header
   head = header_for sh curve e q
 
-  pub values-near : {line : Option (List ℕ)} {loss : ℕ → ℕ → ℕ} → Tells (samples-fit x curve) curve line loss → {long : ℕ} {bs : List ℕ} {plan : Plan} → Carries head long bs q plan
-      → Gives sh g (figure_of head (told line) (loads plan)) (read_as head (told line) long bs plan)
+  pub values-near : {long : ℕ} {bs : List ℕ} {plan : Plan} → Carries head long bs q plan → (let ls = losses_for sh q in Gives sh g (figure_of head ls (loads plan)) (read_as head ls long bs plan))
   unfolding values_with
-  values-near {loss = loss} tells {plan = plan} carries =
+  values-near {plan = plan} carries =
       let c = samples-fit x curve in
-      let missed = missing head (loads plan) in
       record {
         taken = refl;
-        near = rw (told-figure c curve tells (loads plan))
-            (sheet-samples sh x.shape curve e (λ k. loss k (missed k)) g _ (λ k p hk hp m. near_le (tells.bound k (missed k)) (coefs-near c curve carries k p hk hp m)));
+        near = rw (told-figure c curve (loads plan)) (sheet-samples sh x.shape curve e (λ k. measured_loss sh q k (missing head (loads plan) k)) g _ (coefs-near c curve carries));
       }

@@ -1,6 +1,5 @@
 -- Reading a truncated card with a plan that asks for whole planes alone: nothing refuses it, and its values are near the samples by the plan's figure. Showing it is reading it with all its whole planes, and the figure is then that of the planes that are not whole.
 use mathlib.Core.List.{List}
-use mathlib.Core.Option.{Option}
 use mathlib.Core.Path.{◌≡◌, sym, ap, ◌∙◌}
 use Prim.Native.Nat.{ℕ, ◌+◌, ◌*◌, ◌-◌, ◌≤◌}
 use native.Mathlib.Decide.{dec_lt}
@@ -20,23 +19,22 @@ use Rattle.layers.specs.Workings.Loops.{Samples}
 use Rattle.sheet.proofs.Lists.{length-tabulate}
 use Rattle.header.specs.declared.Header.{Header}
 use Rattle.header.specs.declared.Plan.{Plan}
-use Rattle.header.specs.Losses.{told}
 use Rattle.header.specs.Plan.{loads, missing}
 use Rattle.order.specs.CardOrder.{whole, whole_plan}
 use Rattle.figure.specs.Figure.{figure_of}
 use Rattle.header.proofs.WellFormed.{WellFormed, layers-few}
 use Rattle.order.proofs.Whole.{whole-past}
-use Rattle.packing.specs.Planes.{header_for}
+use Rattle.packing.specs.Planes.{header_for, measured_loss, losses_for, card_of}
 use Rattle.card.specs.Reading.{reading, showing}
 use Rattle.loading.proofs.LayerPlanes.{whole-at}
 use Rattle.card.proofs.ReadCall.{read_as}
 use Rattle.guarantee.specs.Guarantee.{Slices, Gives}
 use Rattle.guarantee.proofs.Cut.{cut-opens, cut-carries}
 use Rattle.guarantee.proofs.Fine.{carried-fine}
-use Rattle.guarantee.proofs.Fits.{card_with, end, fits-right, samples-fit}
+use Rattle.guarantee.proofs.Fits.{end, fits-right, samples-fit}
 use Rattle.guarantee.proofs.Near.{values-near}
 use Rattle.guarantee.proofs.Taken.{AsksWhole, passed_reads}
-use Rattle.guarantee.proofs.Told.{Tells, told-figure}
+use Rattle.guarantee.proofs.Told.{told-figure}
 
 -- ---- the figure of all whole planes
 module _ {h : Header} (r : WellFormed h) (n : ℕ) where
@@ -54,8 +52,7 @@ module _ {h : Header} (r : WellFormed h) (n : ℕ) where
   whole-figure figure = ap figure (λ i k. loads-whole k i)
 
 -- ---- the card of samples, truncated behind its header
-module _ {sh : Shape} {e : ℕ} {g : List ℤ} (x : Samples sh e g) (curve : Curve) {line : Option (List ℕ)} {lost : ℕ → ℕ → ℕ} (tells : Tells (samples-fit x curve) curve line lost)
-    (n : ℕ) (behind : end sh curve e (coefs (layering sh curve) e g) line ≤ n) where
+module _ {sh : Shape} {e : ℕ} {g : List ℤ} (x : Samples sh e g) (curve : Curve) (n : ℕ) (behind : end sh curve e (coefs (layering sh curve) e g) ≤ n) where
   abbrev q : List ℤ
   q = coefs (layering sh curve) e g
 
@@ -63,29 +60,26 @@ module _ {sh : Shape} {e : ℕ} {g : List ℤ} (x : Samples sh e g) (curve : Cur
   h = header_for sh curve e q
 
   abbrev ls : List ℕ
-  ls = told line
+  ls = losses_for sh q
 
   abbrev long : ℕ
-  long = end sh curve e q line
-
-  abbrev card : List ℕ
-  card = card_with sh curve e q line
+  long = end sh curve e q
 
   abbrev left : List ℕ
-  left = take n card
+  left = take n (card_of sh curve e q)
 
   module _ (plan : Plan) (asks : AsksWhole h long left plan) where
     pub truncated-reads : (qs' vs' : List ℤ) → Slices sh qs' vs' → reading qs' vs' left plan ≡ read_as h ls long left plan
     truncated-reads qs' vs' s =
         let c = samples-fit x curve in
         passed_reads (record {
-          opens = cut-opens c curve tells n behind;
+          opens = cut-opens c curve n behind;
           slices = s;
-          taken = record { asks = asks; fine = carried-fine c curve (cut-carries c curve tells n behind plan asks) };
+          taken = record { asks = asks; fine = carried-fine c curve (cut-carries c curve n behind plan asks) };
         })
 
     pub truncated-gives : Gives sh g (figure_of h ls (loads plan)) (read_as h ls long left plan)
-    truncated-gives = values-near x curve tells (cut-carries (samples-fit x curve) curve tells n behind plan asks)
+    truncated-gives = values-near x curve (cut-carries (samples-fit x curve) curve n behind plan asks)
 
   -- WHAT IS SHOWN
   abbrev all : Plan
@@ -96,7 +90,7 @@ module _ {sh : Shape} {e : ℕ} {g : List ℤ} (x : Samples sh e g) (curve : Cur
 
   shows-all : (qs' vs' : List ℤ) → showing qs' vs' left ≡ reading qs' vs' left all
   unfolding showing reading
-  shows-all qs' vs' = rw (cut-opens (samples-fit x curve) curve tells n behind)
+  shows-all qs' vs' = rw (cut-opens (samples-fit x curve) curve n behind)
 
   pub shows : (qs' vs' : List ℤ) → Slices sh qs' vs' → showing qs' vs' left ≡ read_as h ls long left all
   shows qs' vs' s = shows-all qs' vs' ∙ truncated-reads all all-asks qs' vs' s
@@ -104,8 +98,9 @@ module _ {sh : Shape} {e : ℕ} {g : List ℤ} (x : Samples sh e g) (curve : Cur
   pub shows-gives : Gives sh g (read_as h ls long left all).figure (read_as h ls long left all)
   shows-gives = truncated-gives all all-asks
 
-  pub shows-figure : n ≤ length card → (read_as h ls long left all).figure ≡ e + standing sh curve (λ k. lost k (missing h (whole h (n - long)) k) * width e) (layers sh)
+  pub shows-figure : n ≤ length (card_of sh curve e q)
+      → (read_as h ls long left all).figure ≡ e + standing sh curve (λ k. measured_loss sh q k (missing h (whole h (n - long)) k) * width e) (layers sh)
   shows-figure m =
-      ap (λ (l : ℕ). figure_of h ls (loads (whole_plan h (l - long)))) (length-take-le n card m)
+      ap (λ (l : ℕ). figure_of h ls (loads (whole_plan h (l - long)))) (length-take-le n (card_of sh curve e q) m)
       ∙ whole-figure (fits-right (samples-fit x curve) curve) (n - long) (figure_of h ls)
-      ∙ told-figure (samples-fit x curve) curve tells (whole h (n - long))
+      ∙ told-figure (samples-fit x curve) curve (whole h (n - long))

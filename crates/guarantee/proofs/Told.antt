@@ -1,6 +1,5 @@
--- What a card tells of its layers' losses. Of its line it is what was measured: the line is laid layer by layer, so a layer's numbers stand behind those of the layers before it. An old card has no line, and its losses are the closed ones. Either is no less than was measured, and the figure of a plan goes by it.
-use mathlib.Core.List.{List, []}
-use mathlib.Core.Option.{Option, none, some}
+-- What the line of a card tells of a layer is what was measured of it: the line is laid layer by layer, so a layer's numbers stand behind those of the layers before it. So the figure of a plan of such a card is by the measured losses.
+use mathlib.Core.List.{List}
 use mathlib.Core.Path.{◌≡◌, refl, sym, ap, ◌∙◌}
 use Prim.Native.Nat.{ℕ, zero, suc, ◌+◌, ◌*◌, ◌-◌, ◌<◌, ◌≤◌}
 use native.Mathlib.Decide.{dec_lt}
@@ -19,20 +18,21 @@ use Rattle.layers.specs.Prediction.{width}
 use Rattle.layers.specs.Carry.{standing}
 use Rattle.header.specs.declared.Header.{Header}
 use Rattle.header.specs.Header.{planes_of}
-use Rattle.header.specs.Losses.{told}
 use Rattle.header.specs.Plan.{missing}
-use Rattle.header.proofs.Laid.{laid-at, LossesFit}
+use Rattle.header.proofs.Laid.{laid-at}
 use Rattle.header.proofs.Totals.{total-same}
 use Rattle.header.proofs.WellFormed.{layers-few, counts_past}
 use Rattle.figure.specs.Figure.{loss_from, layer_loss, figure_of}
 use Rattle.packing.specs.Planes.{planes_for, header_for, measured_loss, losses_for}
-use Rattle.packing.proofs.Cards.{counts-at, measured-fit}
-use Rattle.packing.proofs.Losses.{measured-most}
+use Rattle.packing.proofs.Cards.{counts-at}
 use Rattle.guarantee.proofs.Fits.{Fits, fits-right, fits-full}
 
 module _ {sh : Shape} {e : ℕ} {qs : List ℤ} (c : Fits sh e qs) (curve : Curve) where
   abbrev h : Header
   h = header_for sh curve e qs
+
+  abbrev ls : List ℕ
+  ls = losses_for sh qs
 
   -- a layer has the planes that were counted; past the last one there are none
   planes-at : (k : ℕ) → k < layers sh → planes_of h k ≡ planes_for sh qs k
@@ -45,28 +45,14 @@ module _ {sh : Shape} {e : ℕ} {qs : List ℤ} (c : Fits sh e qs) (curve : Curv
         | no y ↦ get_or-eq_default h.planes 0 {n = k} (omega (arith, fits-full c curve))
       ]
 
-  -- A LINE TELLS that d missing planes of layer k lose `lost k d`, and no less was measured
-  pub record Tells (line : Option (List ℕ)) (lost : ℕ → ℕ → ℕ) : Type 0 where
-    pub fit : LossesFit h line
-    pub loss-is : (k d : ℕ) → d ≤ planes_of h k → layer_loss h (told line) k d ≡ lost k d
-    pub bound : (k d : ℕ) → measured_loss sh qs k d ≤ lost k d
-
-  -- so the figure
-  pub told-figure : {line : Option (List ℕ)} {lost : ℕ → ℕ → ℕ} → Tells line lost → (plan : ℕ → ℕ)
-      → figure_of h (told line) plan ≡ e + standing sh curve (λ k. lost k (missing h plan k) * width e) (layers sh)
-  unfolding figure_of
-  told-figure t plan =
-      ap (λ (lost : ℕ → ℕ). e + standing sh curve (λ k. lost k * width e) (layers sh))
-      (λ i k. t.loss-is k (missing h plan k) (omega arith) i)
-
-  -- ---- the line that was measured
-  measured-loss : (k d : ℕ) → d ≤ planes_of h k → layer_loss h (losses_for sh qs) k d ≡ measured_loss sh qs k d
+  -- THE LOSS OF A LAYER
+  pub told-loss : (k d : ℕ) → d ≤ planes_of h k → layer_loss h ls k d ≡ measured_loss sh qs k d
   unfolding loss_from losses_for
-  measured-loss k zero l = omega (arith, none-lost)
+  told-loss k zero l = omega (arith, none-lost)
     where
       none-lost : measured_loss sh qs k 0 ≤ 0
       none-lost = unfold measured_loss in (largest-most _ 0 (layer_size sh k) (λ i _. omega (arith, away-none (at qs (point_of sh k i)))))
-  measured-loss k (suc j) l =
+  told-loss k (suc j) l =
       elim (dec_lt k (layers sh)) [
         | yes hk ↦
             let first : total (planes_of h) k ≡ total (planes_for sh qs) k = total-same (planes_of h) (planes_for sh qs) k (λ i m. planes-at i (omega arith)) in
@@ -74,14 +60,9 @@ module _ {sh : Shape} {e : ℕ} {qs : List ℤ} (c : Fits sh e qs) (curve : Curv
         | no n ↦ absurd (let z : ⊥ = omega (arith, planes-past k (omega arith)) in z)
       ]
 
-  pub tells-measured : Tells (some (losses_for sh qs)) (measured_loss sh qs)
-  tells-measured = record { fit = measured-fit sh c.shape qs curve e c.step; loss-is = measured-loss; bound = λ k d. omega arith }
-
-  -- ---- and none
-  closed-loss : (k d : ℕ) → layer_loss h [] k d ≡ loss d
-  unfolding loss_from loss
-  closed-loss k zero = refl
-  closed-loss k (suc j) = refl
-
-  pub tells-closed : Tells none (λ k d. loss d)
-  tells-closed = record { fit = tt; loss-is = λ k d _. closed-loss k d; bound = measured-most sh qs }
+  -- and the figure
+  pub told-figure : (plan : ℕ → ℕ) → figure_of h ls plan ≡ e + standing sh curve (λ k. measured_loss sh qs k (missing h plan k) * width e) (layers sh)
+  unfolding figure_of
+  told-figure plan =
+      ap (λ (lost : ℕ → ℕ). e + standing sh curve (λ k. lost k * width e) (layers sh))
+      (λ i k. told-loss k (missing h plan k) (omega arith) i)

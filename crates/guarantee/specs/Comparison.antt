@@ -1,14 +1,14 @@
 -- Two cards compared, request 4 (docs/CARD.md, "The three demands", at its end): where the answer is apart and our writer wrote both cards, the two original
 -- readings did differ.
-use Rattle.std.specs.Prelude.{Bool, List, ◌≡◌, ℕ, ◌+◌, ◌*◌, ◌<◌, ◌≤◌, ℤ, length, get_or}
+use Rattle.std.specs.Prelude.{List, ◌≡◌, ℕ, ◌+◌, ◌*◌, ◌<◌, ◌≤◌, ℤ, length, get_or}
 use Rattle.sheet.specs.declared.Curve.{Curve}
 use Rattle.sheet.specs.Lists.{at}
 use Rattle.sheet.specs.Sheet.{sheet_of}
 use Rattle.compare.specs.Comparing.{Lent, Comparing, comparing}
-use Rattle.guarantee.specs.Guarantee.{Slices, made, card_by, truncated, head_end}
+use Rattle.guarantee.specs.Guarantee.{Slices, made, truncated, head_end}
 
--- a sheet of so many rows and columns that was accepted, written with levels, curve and step of its own, its card with the line of losses or as an old one, and the byte
--- at which that was pulled, anywhere from its header's end on
+-- a sheet of so many rows and columns that was accepted, written with levels, curve and step of its own, and the byte at which its card was pulled, anywhere
+-- from its header's end on
 pub record Pulled (rows cols : ℕ) : Type 0 where
   pub samples : List ℤ
   pub levels : ℕ
@@ -18,16 +18,15 @@ pub record Pulled (rows cols : ℕ) : Type 0 where
   pub coefficients : List ℤ
   pub values : List ℤ
   pub output : List ℕ
-  pub lined : Bool
   pub byte : ℕ
   pub accepted : (made samples (sheet_of rows cols levels) curve step coefficients values output).refused.number ≡ 0
-  pub behind : head_end samples (sheet_of rows cols levels) curve step coefficients values output lined ≤ byte
-  pub there : byte ≤ length (card_by samples (sheet_of rows cols levels) curve step coefficients values output lined)
+  pub behind : head_end samples (sheet_of rows cols levels) curve step coefficients values output ≤ byte
+  pub there : byte ≤ (made samples (sheet_of rows cols levels) curve step coefficients values output).long
 
 module _ {rows cols : ℕ} where
   -- what is left of its card
   abbrev pub pulled_card : Pulled rows cols → List ℕ
-  pulled_card a = truncated a.samples (sheet_of rows cols a.levels) a.curve a.step a.coefficients a.values a.output a.lined a.byte
+  pulled_card a = truncated a.samples (sheet_of rows cols a.levels) a.curve a.step a.coefficients a.values a.output a.byte
 
   -- the two original readings at point p differ
   abbrev pub Differ : Pulled rows cols → Pulled rows cols → ℕ → Type 0

@@ -1,6 +1,5 @@
 -- Demand 1, its second sentence (docs/CARD.md, "The three demands"): a refused call changes none of the memory that the caller lent. Whatever a call was given, where
--- the number of its refusal is not 0 every slice that it can write holds what it held. The figure and both plannings are lent nothing to write; opening puts losses into a
--- lent table where nothing is refused (`header`, `open_with_losses`).
+-- the number of its refusal is not 0 every slice that it can write holds what it held. Opening, the figure and both plannings are lent nothing to write.
 use Rattle.std.specs.Prelude.{List, ◌≡◌, ℕ, ℤ, length}
 use Rattle.sheet.specs.declared.Shape.{Shape}
 use Rattle.sheet.specs.declared.Curve.{Curve}

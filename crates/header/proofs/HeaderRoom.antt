@@ -14,7 +14,7 @@ use Rattle.integers.proofs.Bools.{and_both, and-no-left, and-no-right}
 use Rattle.text.specs.Joined.{joined}
 use Rattle.header.specs.declared.Header.{Header}
 use Rattle.header.specs.Header.{header_text}
-use Rattle.header.specs.Workings.{text_most, room_for, header_length, putting_header}
+use Rattle.header.specs.Workings.{text_most, room_for, header_end, putting_header}
 
 module _ (out ls : List ℕ) where
   abbrev long : ℕ
@@ -32,10 +32,10 @@ module _ (out ls : List ℕ) where
         | no s ↦ and-no-right (leb text_most (length out)) _ (lt-leb long (length out - text_most) (omega arith))
       ]
 
-  pub header-fits : (h : Header) → text_most + length (joined ls) ≤ length out → (header_length out h ls ≡ length (header_text h (some ls))) × (putting_header out h ls ≡ sets out 0 (header_text h (some ls)))
-  unfolding header_length putting_header
+  pub header-fits : (h : Header) → text_most + length (joined ls) ≤ length out → (header_end out h ls ≡ length (header_text h (some ls))) × (putting_header out h ls ≡ sets out 0 (header_text h (some ls)))
+  unfolding header_end putting_header
   header-fits h l = rw (room l) (refl, refl)
 
-  pub header-over : (h : Header) → length out < text_most + length (joined ls) → (header_length out h ls ≡ 0) × (putting_header out h ls ≡ out)
-  unfolding header_length putting_header
+  pub header-over : (h : Header) → length out < text_most + length (joined ls) → (header_end out h ls ≡ 0) × (putting_header out h ls ≡ out)
+  unfolding header_end putting_header
   header-over h l = rw (no_room l) (refl, refl)

@@ -1,29 +1,32 @@
--- The line of losses as the code reads it: the table's front holds the closed losses, which are the limits of the numbers that are read there. By how the header
--- ends, opening is refused or accepts with them.
+-- The line of losses as the code reads it: the table's front holds the closed losses, which are the limits of the numbers that are read there. The answer of the line of cells is the same
+-- with losses and without, so it is handed on with them.
+use mathlib.Core.Bool.{Bool, true, false, cond}
 use mathlib.Core.List.{List, []}
 use mathlib.Core.Option.{Option, none, some}
 use mathlib.Core.Path.{◌≡◌, refl, sym, ap, ◌∙◌}
-use Prim.Native.Nat.{ℕ, ◌≤◌}
+use Prim.Native.Nat.{ℕ, ◌+◌, ◌*◌, ◌≤◌}
 use native.Mathlib.Omega.{arith}
-use lib.Dec.{eqb}
-use lib.ListN.{length, take, replicate, length-replicate}
+use lib.Dec.{ltb, eqb}
+use lib.ListN.{length, take, drop, replicate, length-replicate}
 use lib.Seq.{sets, length-sets}
-use borrow.Author.Tests.{ne_eqb}
-use Rattle.integers.proofs.Bools.{choice}
 use Rattle.digits.specs.Digits.{loss}
 use Rattle.sheet.specs.Lists.{total}
 use Rattle.sheet.specs.Sheet.{layers}
+use Rattle.text.specs.declared.Line.{Line}
+use Rattle.text.specs.declared.Line.TheVariants as L
+use Rattle.text.specs.Line.{line_at}
 use Rattle.text.specs.Workings.{putting}
 use Rattle.text.proofs.Fitting.{put-fits}
 use Rattle.text.proofs.Padding.{padded-put, padded-take}
 use Rattle.header.specs.declared.Header.{Header}
-use Rattle.header.specs.declared.HeaderEnd.{HeaderEnd}
+use Rattle.header.specs.declared.Opened.{Opened}
+use Rattle.header.specs.declared.Refusal.{Refusal}
 use Rattle.header.specs.declared.Refusal.TheVariants as R
-use Rattle.header.specs.Refusals.{details_of}
-use Rattle.header.specs.Header.{planes_of}
+use Rattle.header.specs.Refusals.{refusal, details_of}
+use Rattle.header.specs.Header.{cell_bytes, ascii, planes_of}
 use Rattle.header.specs.Losses.{closed, losses_most}
-use Rattle.header.specs.Workings.{ended_by, Ending}
-use Rattle.header.specs.Opening.{Opening, not_opened}
+use Rattle.header.specs.Workings.{Answers}
+use Rattle.header.specs.Opening.{Opening, not_opened, opened, as_opening, taking, opening_cells}
 use Rattle.header.proofs.WellFormed.{WellFormed}
 use Rattle.header.proofs.Laid.{laid-length, planes-few}
 
@@ -42,24 +45,36 @@ module _ {h : Header} (r : WellFormed h) (count : ℕ) (count-is : count ≡ tot
     pub limits-room : count ≤ length table
     limits-room = omega (arith, planes-few r, count-is, ap length table_is, length-sets (replicate losses_most 0) 0 most, length-replicate {A = ℕ} losses_most 0)
 
--- ---- how a header ends: accepted it is handed on with the losses, and beside a refusal it is blank
-module _ (r : HeaderEnd) (h : Header) (losses : Option (List ℕ)) where
-  pub ended-yes : r.refusal ≡ R.Accepted → record { refused = details_of r.refusal; header = h; losses = losses; long = r.length } ≡ ended_by r h losses
-  ended-yes y = rw y
+-- ---- the line of cells: its answer with losses, by that without
+abbrev pub with_losses : Option (List ℕ) → Opening → Opening
+with_losses losses o = cond (eqb o.refused.number 0) (opened o.header losses o.long) o
 
-  pub ended-no : ((details_of r.refusal).number ≡ 0 → ⊥) → not_opened (details_of r.refusal) ≡ ended_by r h losses
-  ended-no n = rw (ne_eqb _ 0 n)
+module _ (bs : List ℕ) (h : Header) (losses : Option (List ℕ)) (line at : ℕ) where
+  abbrev closing : Option (List ℕ) → Bool → ℕ → Opening
+  closing losses t n = cond t (not_opened (refusal 7 0 0)) (opened h losses (at + n))
 
--- ---- the table: without losses it stays, and with them it has them in front
-pub table_stays : (table : List ℕ) → table ≡ putting table 0 []
-table_stays table = sym (put-fits table 0 [] (omega arith)).1
+  abbrev trailing : ℕ → Bool
+  trailing n = ltb (at + n + cell_bytes * h.cells) (length bs)
 
-module _ (r : HeaderEnd) (h : Header) (before : List ℕ) where
-  none_told : (ended_by r h none).losses ≡ none
-  none_told = choice (λ (o : Opening). o.losses ≡ none) (eqb (details_of r.refusal).number 0) (λ _. refl) (λ _. refl)
+  pub cells-with : opening_cells bs h losses line at ≡ with_losses losses (opening_cells bs h none line at)
+  unfolding opening_cells
+  cells-with = by (line_at (ascii "cells=") h.cells h.cells (drop at bs))
+    where
+      each : (t : Bool) (n : ℕ) → closing losses t n ≡ with_losses losses (closing none t n)
+      each true n = refl
+      each false n = refl
 
-  pub ending-none : (o : Opening) → ended_by r h none ≡ o → r.losses ≡ 0 → Ending r h before before o
-  ending-none o e z = rw (← e) (record { is = rw none_told; many = rw none_told z; table = rw none_told (table_stays before) })
+      by : (l : Line) → taking line l (λ _ n. closing losses (trailing n) n) ≡ with_losses losses (taking line l (λ _ n. closing none (trailing n) n))
+      by L.Short = refl
+      by L.Wrong = refl
+      by (L.Number v n) = each (trailing n) n
 
-  pub ending-some : (ls : List ℕ) (o : Opening) → r.refusal ≡ R.Accepted → o ≡ ended_by r h (some ls) → r.losses ≡ length ls → (after : List ℕ) → after ≡ putting before 0 ls → Ending r h before after o
-  ending-some ls o a e many after table = rw (e, a) (record { is = refl; many = many; table = table })
+-- ---- what the code answers: without losses the table stays, and with them it has them in front
+module _ (r : Opened) (before : List ℕ) where
+  pub answers-none : (o : Opening) → as_opening r none ≡ o → r.losses ≡ 0 → Answers r before before o
+  answers-none o e z = rw (← e) (record { is = refl; many = z; table = sym (put-fits before 0 [] (omega arith)).1 })
+
+  pub answers-some : (ls : List ℕ) (o : Opening) → r.refusal ≡ R.Accepted → o ≡ opened r.header (some ls) r.length → r.losses ≡ length ls → (after : List ℕ) → after ≡ putting before 0 ls
+      → Answers r before after o
+  answers-some ls o a e many after table =
+      rw e (record { is = ap (λ (k : Refusal). record { refused = details_of k; header = r.header; losses = some ls; long = r.length }) a; many = many; table = table })

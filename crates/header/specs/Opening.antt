@@ -3,7 +3,7 @@
 -- How a line hands on to the next: `taking n line go` is refusal 5 or 6 where line n does not end or is wrong; otherwise `go` goes on with the line's number
 -- and its length. Each takes its line from the byte `at` on, and hands all that is known by then to the next:
 --     opening_rows, opening_cols, opening_levels, opening_curve, opening_step, opening_planes: the first six lines, and where line 7 begins;
---     opening_losses, opening_told, opening_cells: the line of losses, where there is one, and the cells, which looks behind the last cell and ends it.
+--     opening_losses, opening_cells: the line of losses, where there is one, and the cells, which looks behind the last cell and ends it.
 -- A definition can name only those above it, so both stand from the last line to the first.
 use Rattle.std.specs.Prelude.{Bool, cond, not, ◌&&◌, List, ◌++◌, ℕ, ◌+◌, ◌*◌, ◌/◌, ltb, leb, eqb, length, get_or, take, drop, replicate}
 use Rattle.std.proofs.Math.Option.{Option, none, some}

@@ -1,6 +1,6 @@
 -- What the calls work with: cells of planes as lists, counts and totals by them, and room for a text.
 use Rattle.std.specs.Prelude.{Bool, cond, ◌&&◌, List, ℕ, ◌+◌, ◌-◌, ◌*◌, ◌/◌, length, get_or, leb, eqb, ◌≡◌}
-use Rattle.std.proofs.Math.Option.{Option, some}
+use Rattle.std.proofs.Math.Option.{none, some}
 use Rattle.std.proofs.lemmas.List.Edits.{sets}
 use Rattle.sheet.specs.declared.Shape.{Shape}
 use Rattle.sheet.specs.Limits.{points_most, layers_most}
@@ -10,10 +10,10 @@ use Rattle.text.specs.Joined.{joined}
 use Rattle.header.specs.declared.Header.{Header}
 use Rattle.header.specs.Header.{places_most, cell_points, plane_cells, header_text, cells_of}
 use Rattle.header.specs.declared.HeaderEnd.{HeaderEnd}
-use Rattle.header.specs.declared.Refusal.{Refusal}
+use Rattle.header.specs.declared.Opened.{Opened}
 use Rattle.header.specs.Refusals.{details_of}
 use Rattle.header.specs.Losses.{told}
-use Rattle.header.specs.Opening.{Opening, opened, not_opened, counts_fit}
+use Rattle.header.specs.Opening.{Opening, opened, not_opened, as_opening, counts_fit}
 use Rattle.text.specs.Workings.{putting}
 
 -- the most cells of one plane: of a layer that has every point
@@ -51,20 +51,16 @@ room_for out losses = leb text_most (length out) && leb (length (joined losses))
 unfoldable pub putting_header : List ℕ → Header → List ℕ → List ℕ
 putting_header out h losses = cond (room_for out losses) (sets out 0 (header_text h (some losses))) out
 
-unfoldable pub header_length : List ℕ → Header → List ℕ → ℕ
-header_length out h losses = cond (room_for out losses) (length (header_text h (some losses))) 0
+unfoldable pub header_end : List ℕ → Header → List ℕ → ℕ
+header_end out h losses = cond (room_for out losses) (length (header_text h (some losses))) 0
 
--- a header that does not end as it should, and why
-abbrev pub no_end : Refusal → HeaderEnd
-no_end r = record { refusal = r; losses = 0; length = 0 }
+-- what opening answers of an old card that ends so, as far as its line of cells tells
+abbrev pub ended_by : HeaderEnd → Header → Opening
+ended_by e h = cond (eqb (details_of e.refusal).number 0) (opened h none e.length) (not_opened (details_of e.refusal))
 
--- what opening answers of a header that ends so, with these losses
-abbrev pub ended_by : HeaderEnd → Header → Option (List ℕ) → Opening
-ended_by e h losses = cond (eqb (details_of e.refusal).number 0) (opened h losses e.length) (not_opened (details_of e.refusal))
-
--- a header ends as opening answers, and the losses told stand at the front of the lent table, where there is room for them
-pub record Ending (r : HeaderEnd) (h : Header) (before after : List ℕ) (o : Opening) : Type 0 where
-  pub is : ended_by r h o.losses ≡ o
+-- what the code answers is what opening answers, and the losses told stand at the front of the lent table, where there is room for them
+pub record Answers (r : Opened) (before after : List ℕ) (o : Opening) : Type 0 where
+  pub is : as_opening r o.losses ≡ o
   pub many : r.losses ≡ length (told o.losses)
   pub table : after ≡ putting before 0 (told o.losses)
 

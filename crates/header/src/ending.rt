@@ -1,6 +1,6 @@
 // What stands behind the first six lines: the line of losses, where the card has one, and the line of cells.
-ghost use Rattle.std.specs.Prelude.{◌≡◌, true, List, ℕ, suc, ◌+◌, ◌^◌, ◌≤◌, ◌<◌, length, get_or};
-ghost use Rattle.std.proofs.Math.Option.{Option};
+ghost use Rattle.std.specs.Prelude.{◌≡◌, true, ℕ, suc, ◌+◌, ◌^◌, ◌≤◌, ◌<◌, length, get_or, drop};
+ghost use Rattle.std.proofs.Math.Option.{none, some};
 ghost use Rattle.std.proofs.lemmas.List.Edits.{sets};
 ghost use Rattle.digits.specs.Digits as D;
 ghost use Rattle.sheet.specs.Limits.{layers_most};
@@ -12,44 +12,60 @@ ghost use Rattle.header.specs.Losses as L;
 ghost use Rattle.header.specs.Opening as O;
 ghost use Rattle.header.specs.Workings as W;
 
-use crate::{CELL_BYTES, Header, HeaderEnd, MOST_LOSSES, Refusal};
+use crate::opening::refused;
+use crate::{CELL_BYTES, Header, HeaderEnd, MOST_LOSSES, Opened, Refusal};
 use sheet::MOST_LAYERS;
 use text::Line;
 
-// A header that does not end as it should.
-fn no_end(refusal: Refusal) -> HeaderEnd
-    ensures { result ≡ W.no_end refusal }
-{
-    HeaderEnd {
-        refusal,
-        losses: 0,
-        length: 0,
-    }
-}
-
-// The line of cells, by its number, and what follows it.
+// The line of cells, by its number, and what follows it: where the header ends, or what is wrong.
 fn end_cells(bytes: &[u8], cells: u64, line: u64, at: usize) -> HeaderEnd
     requires { cells ≤ 2 ^ 32 }
-    ensures { ((h : Header) (losses : Option (List ℕ)) → h.cells ≡ cells → W.ended_by result h losses ≡ O.opening_cells bytes.now h losses line at) × (result.losses ≡ 0) }
+    ensures { (h : Header) → h.cells ≡ cells → W.ended_by result h ≡ O.opening_cells bytes.now h none line at }
 {
     match text::read_line(bytes, at, b"cells=", cells, cells) {
-        Line::Short => no_end(Refusal::HeaderCut),
-        Line::Wrong => no_end(Refusal::BadLine(line)),
+        Line::Short => HeaderEnd {
+            refusal: Refusal::HeaderCut,
+            length: 0,
+        },
+        Line::Wrong => HeaderEnd {
+            refusal: Refusal::BadLine(line),
+            length: 0,
+        },
         Line::Number { value: _, length } => {
             let end = at + length;
             if CELL_BYTES * (cells as usize) < bytes.len() - end {
-                return no_end(Refusal::TrailingBytes);
+                return HeaderEnd {
+                    refusal: Refusal::TrailingBytes,
+                    length: 0,
+                };
             }
             HeaderEnd {
                 refusal: Refusal::Accepted,
-                losses: 0,
                 length: end,
             }
         }
     }
 }
 
-// The closed losses of d = 1 to `planes`, put at a place: the most that each number of the line may be.
+// The same as what opening answers; the header is only handed through.
+fn open_cells(bytes: &[u8], header: Header, line: u64, at: usize) -> Opened
+    requires { header.cells ≤ 2 ^ 32 }
+    ensures { (O.as_opening result none ≡ O.opening_cells bytes.now header none line at) × (result.losses ≡ 0) }
+{
+    let ending = end_cells(bytes, header.cells, line, at);
+    let refusal = ending.refusal;
+    match refusal {
+        Refusal::Accepted => Opened {
+            refusal,
+            header,
+            losses: 0,
+            length: ending.length,
+        },
+        _ => refused(refusal),
+    }
+}
+
+// The closed losses of d = 1 to `planes`, put at a place.
 fn close_layer(table: &mut [u64], at: usize, planes: u64)
     requires { (planes ≤ Hd.places_most) × (at + planes ≤ length table.old) }
     ensures { table.new ≡ sets table.old at (tabulate planes (λ j. D.loss (suc j))) }
@@ -90,47 +106,49 @@ fn keep(numbers: &[u64], table: &mut [u32])
 const LOSSES_AT: usize = 5;
 
 // The line of losses, and what follows it. The numbers are kept where nothing is refused.
-fn end_told(bytes: &[u8], header: Header, at: usize, losses: &mut [u32]) -> HeaderEnd
+fn open_told(bytes: &[u8], header: Header, at: usize, losses: &mut [u32]) -> Opened
     requires { (O.well_formed header ≡ true) × (at ≤ length bytes.now) }
-    ensures { W.Ending result header losses.old losses.new (O.opening_told bytes.now header at) }
+    ensures { W.Answers result losses.old losses.new (O.opening_told bytes.now header at) }
 {
     let end = text::find(bytes, at, b'\n');
     if bytes.len() <= end {
-        return no_end(Refusal::HeaderCut);
+        return refused(Refusal::HeaderCut);
     }
     let line = &bytes[at..end];
     if !text::starts_with(line, b"loss=") {
-        return no_end(Refusal::BadLine(7));
+        return refused(Refusal::BadLine(7));
     }
     let mut numbers = [0u64; MOST_LOSSES];
     let planes = header.planes;
     let layers = sheet::layer_count(header.shape);
     let count = close_table(planes, layers, &mut numbers);
     if !text::read_joined(&line[LOSSES_AT..], &mut numbers[..count]) {
-        return no_end(Refusal::BadLine(7));
+        return refused(Refusal::BadLine(7));
     }
-    let ending = end_cells(bytes, header.cells, 8, end + 1);
-    let refusal = ending.refusal;
+    let opened = open_cells(bytes, header, 8, end + 1);
+    let refusal = opened.refusal;
     match refusal {
         Refusal::Accepted => {
             keep(&numbers[..count], losses);
-            HeaderEnd {
+            let read = opened.header;
+            Opened {
                 refusal,
+                header: read,
                 losses: count,
-                length: ending.length,
+                length: opened.length,
             }
         }
-        _ => ending,
+        _ => opened,
     }
 }
 
 // Line 7 and what follows it: the losses, where it starts with their key, and otherwise the cells of an old card.
-pub(crate) fn end_header(bytes: &[u8], header: Header, at: usize, losses: &mut [u32]) -> HeaderEnd
+pub(crate) fn open_losses(bytes: &[u8], header: Header, at: usize, losses: &mut [u32]) -> Opened
     requires { (O.well_formed header ≡ true) × (at ≤ length bytes.now) }
-    ensures { W.Ending result header losses.old losses.new (O.opening_losses bytes.now header at) }
+    ensures { W.Answers result losses.old losses.new (O.opening_losses bytes.now header at) }
 {
     if text::starts_with(&bytes[at..], b"loss=") {
-        return end_told(bytes, header, at, losses);
+        return open_told(bytes, header, at, losses);
     }
-    end_cells(bytes, header.cells, 7, at)
+    open_cells(bytes, header, 7, at)
 }

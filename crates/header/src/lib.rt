@@ -86,11 +86,10 @@ pub struct Opened {
     pub length: usize,
 }
 
-// How a header ends: how many losses its line tells and how many bytes it has, or why it is refused.
+// How a header ends: its bytes, or why it is refused.
 #[derive(Drop)]
 pub(crate) struct HeaderEnd {
     pub refusal: Refusal,
-    pub losses: usize,
     pub length: usize,
 }
 

@@ -8,13 +8,13 @@ ghost use Rattle.text.specs.Workings as Wk;
 ghost use Rattle.header.specs.Losses as L;
 ghost use Rattle.header.specs.Opening as O;
 
-use crate::ending::end_header;
+use crate::ending::open_losses;
 use crate::planes::{cells_of, limits, spans_of};
 use crate::{Header, Opened, Refusal};
 use sheet::{Curve, MOST_LAYERS, MOST_LEVELS, MOST_POINTS, MOST_STEP, Shape};
 use text::Line;
 
-fn refused(refusal: Refusal) -> Opened
+pub(crate) fn refused(refusal: Refusal) -> Opened
     ensures { (O.as_opening result none ≡ O.not_opened (R.details_of refusal)) × (result.losses ≡ 0) }
 {
     Opened {
@@ -182,7 +182,7 @@ fn open_rows(bytes: &[u8]) -> Opened
     }
 }
 
-// Opens any bytes: the header and the losses that its line tells, or the first thing that is wrong. The losses are put at the front of the lent table; one that is too short for them stays as it is.
+// Opens any bytes: the header and the losses that its line tells, put at the front of a lent table that has room for them, or the first thing that is wrong.
 pub fn open_with_losses(bytes: &[u8], losses: &mut [u32]) -> Opened
     ensures bytes_value { O.as_opening result (O.opening bytes.now).losses ≡ O.opening bytes.now }
     ensures losses_value { (result.losses ≡ length (L.told (O.opening bytes.now).losses)) × (losses.new ≡ Wk.putting losses.old 0 (L.told (O.opening bytes.now).losses)) }
@@ -192,17 +192,7 @@ pub fn open_with_losses(bytes: &[u8], losses: &mut [u32]) -> Opened
     match refusal {
         Refusal::Accepted => {
             let header = first.header;
-            let ending = end_header(bytes, header, first.length, losses);
-            let last = ending.refusal;
-            match last {
-                Refusal::Accepted => Opened {
-                    refusal: last,
-                    header,
-                    losses: ending.losses,
-                    length: ending.length,
-                },
-                _ => refused(last),
-            }
+            open_losses(bytes, header, first.length, losses)
         }
         _ => refused(refusal),
     }

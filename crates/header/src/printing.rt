@@ -80,7 +80,7 @@ fn put_lines(out: &mut [u8], header: Header, losses: &[u64]) -> usize
 // Puts the text of a header and its losses at the front of the output and answers its length. Where there is not room for any header with these losses,
 // nothing is put, and the answer is 0.
 pub fn put_header(out: &mut [u8], header: Header, losses: &[u64]) -> usize
-    ensures { (result ≡ W.header_length out.old header losses.now) × (out.new ≡ W.putting_header out.old header losses.now) }
+    ensures { (result ≡ W.header_end out.old header losses.now) × (out.new ≡ W.putting_header out.old header losses.now) }
 {
     let room = out.len();
     if room < MOST_TEXT {

@@ -61,11 +61,11 @@ fn gather_layer(coefficients: &[i32], shape: Shape, layer: usize, words: &mut [u
     }
 }
 
-// The words of all layers, each in whole cells; spare words stay as they are.
-pub(crate) fn gather(coefficients: &[i32], shape: Shape, words: &mut [u32])
+// The words of all layers, each in whole cells; spare words stay as they are. Answers where the last block ends.
+pub(crate) fn gather(coefficients: &[i32], shape: Shape, words: &mut [u32]) -> usize
     requires shape_value { (S.accepted shape ≡ true) × (length coefficients.now ≡ S.points shape) }
     requires words_value { words.old ≡ replicate W.words_most W.offset }
-    ensures { W.Gathered shape coefficients.now words.new }
+    ensures { (result ≡ W.block_start shape (S.layers shape)) × W.Gathered shape coefficients.now words.new }
 {
     let layers = sheet::layer_count(shape);
     let mut start: usize = 0;
@@ -73,6 +73,7 @@ pub(crate) fn gather(coefficients: &[i32], shape: Shape, words: &mut [u32])
         gather_layer(coefficients, shape, k, words, start);
         start += CELL_POINTS * header::plane_cells(shape, k) as usize;
     }
+    start
 }
 
 // The fewest digits that hold the numbers of n words: those of the smallest and of the largest. 24 where 23 do not.

@@ -15,8 +15,8 @@ use crate::words::{OFFSET, counts, gather};
 use header::{CELL_BYTES, Header, MOST_LOSSES, MOST_PLACES};
 use sheet::{Curve, MOST_LAYERS, MOST_STEP, Shape};
 
-// Room for the text of any card's header, and for as many of the longest numbers as it may have losses, so that these need not be counted.
-const TEXT_ROOM: usize = 8192;
+// Room for the text of any card's header.
+const TEXT_ROOM: usize = 4096;
 
 // The text of a header with its losses and the planes of rows behind it, at the front of the output; answers their length. Their length is taken first: where
 // they do not fit, nothing is put.

@@ -75,9 +75,9 @@ row_plane sh rows k p = flat_plane rows (block_start sh k) (plane_cells sh k) p
 unfoldable pub flat_card : Header → List ℕ → List ℕ → List ℕ
 flat_card h ls rows = header_text h (some ls) ++ in_order h (row_plane h.shape rows)
 
--- room for such a text of any card (why so much: `packing`, src/writing.rt)
+-- room for such a text of any card, by the losses that it has
 abbrev pub text_room : ℕ
-text_room = 8192
+text_room = 4096
 
 pub record TextFits (h : Header) (ls : List ℕ) : Type 0 where
   pub losses : text_most + length (joined ls) ≤ text_room

@@ -44,14 +44,8 @@ read-line-requires c κs = search rules
 enum_told : tie.Need-enum-told
 enum_told c = search rules
 
-no-end-requires : tie.Need-no-end-requires
-no-end-requires c κs = search rules
-
 enum-told-2 : tie.Need-enum-told-2
 enum-told-2 c = search rules
-
-no-end-requires-2 : tie.Need-no-end-requires-2
-no-end-requires-2 c κs = search rules
 
 enum-known-length : tie.Need-enum-known-length
 enum-known-length c = search rules
@@ -65,28 +59,25 @@ mul-if1 c = search rules
 sub-if1 : tie.Need-overflow-sub-if1
 sub-if1 c = ends c.before
 
-no-end-requires-3 : tie.Need-no-end-requires-3
-no-end-requires-3 c κs = search rules
-
 returns : tie.Need-returns
 unfolding opening_cells
-returns c =
-    let v = c.before.before.before in
-    rw c.no-end3.ensures (λ h _ e. rw (e, number v, lt-ltb (full v) (length (A (R v)).args.bytes.now) (omega (arith, c.before.if1.true))), refl)
+returns c = λ h e.
+    let v = c.before.before in
+    rw (e, number v, lt-ltb (full v) (length (A (R v)).args.bytes.now) (omega (arith, c.if1.true)))
 
 returns-2 : tie.Need-returns-2
 unfolding opening_cells
-returns-2 c = rw c.no_end.ensures (λ h _ e. rw (e, line c.before.before.before, c.before.enum_told.given.1), refl)
+returns-2 c = λ h e. rw (e, line c.before.before, c.enum_told.given.1)
 
 returns-3 : tie.Need-returns-3
 unfolding opening_cells
-returns-3 c = rw c.no-end2.ensures (λ h _ e. rw (e, line c.before.before.before, c.before.enum-told2.given.1), refl)
+returns-3 c = λ h e. rw (e, line c.before.before, c.enum-told2.given.1)
 
 returns-4 : tie.Need-returns-4
 unfolding opening_cells
-returns-4 c =
+returns-4 c = λ h e.
     let v = c.before.before in
-    (λ h _ e. rw (e, number v, le-ltb (full v) (length (A (R v)).args.bytes.now) (omega (arith, c.if1.false, ends v))), refl)
+    rw (e, number v, le-ltb (full v) (length (A (R v)).args.bytes.now) (omega (arith, c.if1.false, ends v)))
 
 pub end-cells-spec : {M : Type 1} → statement M
 end-cells-spec =
@@ -95,14 +86,11 @@ end-cells-spec =
     slice-aggregate-read-line
     read-line-requires
     enum_told
-    no-end-requires
     enum-told-2
-    no-end-requires-2
     enum-known-length
     add-end
     mul-if1
     sub-if1
-    no-end-requires-3
     returns
     returns-2
     returns-3

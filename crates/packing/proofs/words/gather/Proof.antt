@@ -112,7 +112,7 @@ returns : tie.Need-returns invariant-loop decreases-loop
 returns c =
     let l = c.before in
     let e : l.loop.k ≡ layers (Sh l) = omega (arith, c.loop-test.false, count l) in
-    gathered-all (Sh l) (Qs l) l.loop.k l.loop.words e l.loop.invariant.2
+    (l.loop.invariant.1 ∙ ap (block_start (Sh l)) e, gathered-all (Sh l) (Qs l) l.loop.k l.loop.words e l.loop.invariant.2)
 
 pub gather-spec : {M : Type 1} → statement M
 gather-spec =

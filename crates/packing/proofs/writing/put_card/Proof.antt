@@ -51,7 +51,7 @@ gather-requires : tie.Need-gather-requires
 gather-requires c κs = let s = c.before.before.before in ((ok s, long s), s.requires.2)
 
 counts-requires : tie.Need-counts-requires
-counts-requires c κs = let g = c.before.before.before in (ok (S g), g.gather.ensures.long)
+counts-requires c κs = let g = c.before.before.before in (ok (S g), g.gather.ensures.1.long)
 
 first-over-requires : tie.Need-first-over-requires
 first-over-requires c κs = search rules
@@ -66,7 +66,7 @@ returns c =
     let g = G n in
     let s = S g in
     card-unheld s.args.shape s.args.step s.pre.0 s.args.curve (Qs s) s.pre.1 s.args.output.now
-    (held_none s.args.shape (ok s) (Qs s) (long s) _ g.gather.ensures n.counts.result n.counts.ensures (omega (arith, f.first-over.ensures, c.if1.true)))
+    (held_none s.args.shape (ok s) (Qs s) (long s) _ g.gather.ensures.1 n.counts.result n.counts.ensures (omega (arith, f.first-over.ensures, c.if1.true)))
 
 abbrev limit : ℕ → ℕ
 limit k = get_or (replicate layers_most places_most) k 0
@@ -86,10 +86,10 @@ module _ (t : tie.After-total-cells) where
   none = omega (arith, t.before.before.first-over.ensures, t.before.if1.left, over-le limit (λ k. get_or n.counts.result k 0))
 
   each : (p : ℕ) → holds places_most (at (Qs s) p) ≡ true
-  each = held-each s.args.shape (ok s) (Qs s) (long s) _ g.gather.ensures n.counts.result n.counts.ensures none
+  each = held-each s.args.shape (ok s) (Qs s) (long s) _ g.gather.ensures.1 n.counts.result n.counts.ensures none
 
   held : all_held (Qs s) ≡ true
-  held = held_all s.args.shape (ok s) (Qs s) (long s) _ g.gather.ensures n.counts.result n.counts.ensures none
+  held = held_all s.args.shape (ok s) (Qs s) (long s) _ g.gather.ensures.1 n.counts.result n.counts.ensures none
 
   few : (k : ℕ) → k < layers_most → get_or n.counts.result k 0 ≤ places_most
   few k l = omega (arith, over_none limit (λ k. get_or n.counts.result k 0) none k l, get_or-replicate layers_most k places_most 0 l)
@@ -104,7 +104,7 @@ measure-layers-requires : tie.Need-measure-layers-requires
 measure-layers-requires c κs =
     let t = c.before.before in
     let a = s t in
-    let gathered = (g t).gather.ensures in
+    let gathered = (g t).gather.ensures.1 in
     ((ok a, gathered.long, length-replicate {A = ℕ} losses_most 0), (few t, block_held a.args.shape (Qs a) _ gathered (each t) (ok a)))
 
 -- the losses, of which there are as many as planes
@@ -146,7 +146,7 @@ turn-requires c κs =
     let m = M c in
     let a = s (t m) in
     let rows = c.rows-end.ensures in
-    (rows.whole, omega (arith, rows.inside, (g (t m)).gather.ensures.long, blocks-most (Sh m) (ok a)))
+    (rows.whole, omega (arith, rows.inside, (g (t m)).gather.ensures.1.long, blocks-most (Sh m) (ok a)))
 
 array-share-prefix-losses : tie.Need-array-share-prefix-losses
 array-share-prefix-losses c =
@@ -161,7 +161,7 @@ put-rows-requires c κs =
     let u = c.before.before.before.before.before in
     let m = M u.before in
     let a = s (t m) in
-    let gathered = (g (t m)).gather.ensures in (
+    let gathered = (g (t m)).gather.ensures.1 in (
       made-right a.args.shape a.args.step a.pre.0 a.args.curve (Qs a) a.pre.1 (held (t m)) (each (t m)) _ gathered _ (n (t m)).counts.ensures _ (t m).total-cells.ensures,
       u.turn.auto.0 ∙ gathered.long,
       made-fits a.args.shape a.args.step a.pre.0 a.args.curve (Qs a) a.pre.1 (held (t m)) (each (t m)) _ gathered _ (n (t m)).counts.ensures _ (t m).total-cells.ensures _ (told m),
@@ -180,7 +180,7 @@ returns-2 c =
     let m = M u.before in
     let a = s (t m) in
     let out = a.args.output.now in
-    let card = ap (flat_card _ _) u.turn.ensures ∙ card-is a.args.shape a.args.step a.pre.0 a.args.curve (Qs a) a.pre.1 (held (t m)) (each (t m)) _ (g (t m)).gather.ensures _ (n (t m)).counts.ensures _ (t m).total-cells.ensures _ (told m) _ u.before.rows-end.ensures in
+    let card = ap (flat_card _ _) u.turn.ensures ∙ card-is a.args.shape a.args.step a.pre.0 a.args.curve (Qs a) a.pre.1 (held (t m)) (each (t m)) _ (g (t m)).gather.ensures.1 _ (n (t m)).counts.ensures _ (t m).total-cells.ensures _ (told m) _ u.before.rows-end.ensures in
     (p.put-rows.ensures.0 ∙ ap (after out 0) card, p.put-rows.ensures.1 ∙ ap (putting out 0) card)
 
 pub put-card-spec : {M : Type 1} → statement M

@@ -1,6 +1,5 @@
 -- By the key of line 7: the code looks at all the bytes from there on, as the definition does.
 use mathlib.Core.Path.{◌≡◌, refl, sym, ap, ◌∙◌}
-use mathlib.Core.Option.{none}
 use native.Mathlib.Omega.{arith}
 use lib.ListN.{drop}
 use borrow.Author.Rules.{rules}
@@ -11,9 +10,9 @@ use Rattle.header.specs.Opening.{opening_losses}
 use Rattle.header.proofs.WellFormed.{right-yes}
 use Rattle.header.proofs.Total.{right-cells}
 use Rattle.header.proofs.Taking.{starts-as}
-use Rattle.header.proofs.Telling.{ending-none}
-use Rattle.header.proofs.ending.end_header.Statement.{statement}
-use Rattle.header.proofs.ending.end_header.Tie as tie
+use Rattle.header.proofs.Telling.{answers-none}
+use Rattle.header.proofs.ending.open_losses.Statement.{statement}
+use Rattle.header.proofs.ending.open_losses.Tie as tie
 
 abbrev S : tie.After-starts-with → tie.Start
 S t = t.before.before.before.before.before
@@ -37,8 +36,8 @@ slice-aggregate-starts-with c = search rules
 starts-with-requires : tie.Need-starts-with-requires
 starts-with-requires c κs = search rules
 
-end-told-requires : tie.Need-end-told-requires
-end-told-requires c κs = search rules
+open-told-requires : tie.Need-open-told-requires
+open-told-requires c κs = search rules
 
 same_length : tie.Need-same-length
 same_length c = search rules
@@ -47,21 +46,19 @@ returns : tie.Need-returns
 unfolding opening_losses
 returns c =
     let t = c.before.before.before.before in
-    rw (starts_is t.before ∙ t.if1.true) c.before.before.end-told.ensures
+    rw (starts_is t.before ∙ t.if1.true) c.before.before.open_told.ensures
 
-end-cells-requires : tie.Need-end-cells-requires
-end-cells-requires c κs = let s = S c.before in omega (arith, right-cells (right-yes s.args.header s.pre.0))
+open-cells-requires : tie.Need-open-cells-requires
+open-cells-requires c κs = let s = S c.before in omega (arith, right-cells (right-yes s.args.header s.pre.0))
 
 returns-2 : tie.Need-returns-2
 unfolding opening_losses
 returns-2 c =
     let e = c.before in
-    let s = S e.before in
-    let ends = c.end-cells.ensures in
-    rw (starts_is e.before ∙ e.if1.false) (ending-none c.end-cells.result s.args.header s.args.losses.now _ (ends.0 s.args.header none refl) ends.1)
+    rw (starts_is e.before ∙ e.if1.false) (answers-none c.open-cells.result (S e.before).args.losses.now _ c.open-cells.ensures.0 c.open-cells.ensures.1)
 
-pub end-header-spec : {M : Type 1} → statement M
-end-header-spec =
+pub open-losses-spec : {M : Type 1} → statement M
+open-losses-spec =
     tie.close
     (tie.spec
     sub-starts-with
@@ -69,8 +66,8 @@ end-header-spec =
     part-starts-with-end
     slice-aggregate-starts-with
     starts-with-requires
-    end-told-requires
+    open-told-requires
     same_length
     returns
-    end-cells-requires
+    open-cells-requires
     returns-2)

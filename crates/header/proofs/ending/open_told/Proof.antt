@@ -1,5 +1,5 @@
--- By cases on the tests, as line 6: `find` gives the end of the line, `starts_with` its key and `read_joined` its numbers, with the closed losses as their limits. The end
--- of the line of cells is handed on with them.
+-- By cases on the tests, as line 6: `find` gives the end of the line, `starts_with` its key and `read_joined` its numbers, with the closed losses as their limits. What the line of
+-- cells answers is handed on with them.
 use mathlib.Core.Bool.{true}
 use mathlib.Core.List.{List, ◌++◌}
 use mathlib.Core.Option.{none, some}
@@ -8,8 +8,9 @@ use Prim.Native.Nat.{ℕ, ◌+◌, ◌-◌, ◌≤◌}
 use native.Mathlib.Omega.{arith}
 use lib.ListN.{length, take, drop, replicate, length-take, length-append}
 use lib.Seq.{sets, take_at}
-use borrow.Author.Tests.{not-true, not-false}
+use borrow.Author.Tests.{not-true, not-false, ne_eqb}
 use borrow.Author.Rules.{rules}
+use Rattle.integers.proofs.Bools.{cond_no}
 use Rattle.sheet.specs.Limits.{layers_most}
 use Rattle.sheet.specs.Sheet.{layers}
 use Rattle.sheet.specs.Lists.{total}
@@ -21,19 +22,20 @@ use Rattle.text.proofs.Joins.{Within, written_back}
 use Rattle.text.proofs.Lines.{tail}
 use Rattle.text.proofs.Search.{starts-length}
 use Rattle.header.specs.declared.Header.{Header}
+use Rattle.header.specs.declared.Refusal.{Refusal}
+use Rattle.header.specs.Refusals.{details_of}
 use Rattle.header.specs.Header.{ascii, ascii_from, planes_of}
 use Rattle.header.specs.Losses.{closed, losses_most}
-use Rattle.header.specs.Workings.{ended_by}
-use Rattle.header.specs.Opening.{Opening, taking_numbers, opening_cells, opening_told}
+use Rattle.header.specs.Opening.{Opening, as_opening, taking_numbers, opening_cells, opening_told}
 use Rattle.header.proofs.WellFormed.{WellFormed, right-yes, layers-few, all-few}
 use Rattle.header.proofs.Laid.{fit-long, fit_small}
 use Rattle.header.proofs.Total.{right-cells}
 use Rattle.header.proofs.Refusing.{refusing}
 use Rattle.header.proofs.Taking.{starts-as}
 use Rattle.header.proofs.Counting.{none_read, some_read, numbers-short, numbers-other, numbers-wrong, numbers-right}
-use Rattle.header.proofs.Telling.{limits-front, limits-room, ended-no, ending-none, ending-some}
-use Rattle.header.proofs.ending.end_told.Statement.{statement}
-use Rattle.header.proofs.ending.end_told.Tie as tie
+use Rattle.header.proofs.Telling.{limits-front, limits-room, with_losses, cells-with, answers-none, answers-some}
+use Rattle.header.proofs.ending.open_told.Statement.{statement}
+use Rattle.header.proofs.ending.open_told.Tie as tie
 
 abbrev A : tie.After-find → tie.Start
 A f = f.before.before.before
@@ -142,8 +144,8 @@ front e rest = take_at (ls (R e)) rest (count (N (R e))) (all_read e)
 within : (a b : List ℕ) (n : ℕ) → length a ≡ n → n ≤ length (a ++ b)
 within a b n e = omega (arith, length-append a b)
 
--- how the line of cells ends, with them
-cells_are : (o : tie.After-end-cells) → (let r = R o.before in opening_told (bs (F (N r))) (h (F (N r))) (at (F (N r))) ≡ ended_by o.end-cells.result (h (F (N r))) (some (ls r)))
+-- what the line of cells answers, with them
+cells_are : (o : tie.After-open-cells) → (let r = R o.before in opening_told (bs (F (N r))) (h (F (N r))) (at (F (N r))) ≡ with_losses (some (ls r)) (as_opening o.open-cells.result none))
 cells_are o =
     let e = o.before in
     let r = R e in
@@ -154,19 +156,20 @@ cells_are o =
     line-is f
     ∙ numbers-right 7 (ascii "loss=") (most f) (bs f) (at f) end f.find.ensures (go f) (E (K n).before).if1.false (starts-yes (K n)) (text r) (behind r) (ls r) (read e)
     ∙ ap (opening_cells (bs f) (h f) (some (ls r)) 8) next
-    ∙ sym (o.end-cells.ensures.0 (h f) (some (ls r)) refl)
+    ∙ cells-with (bs f) (h f) (some (ls r)) 8 (end + 1)
+    ∙ ap (with_losses (some (ls r))) (sym o.open-cells.ensures.0)
 
 find-requires : tie.Need-find-requires
 find-requires c κs = search rules
 
-no-end-requires : tie.Need-no-end-requires
-no-end-requires c κs = search rules
+refused-requires : tie.Need-refused-requires
+refused-requires c κs = search rules
 
 returns : tie.Need-returns
 returns c =
     let f = c.before.before in
     let is = line-is f ∙ numbers-short 7 (ascii "loss=") (most f) (bs f) (at f) f.find.result f.find.ensures (go f) c.before.if1.true in
-    rw c.no_end.ensures (ending-none _ (h f) (A f).args.losses.now _ (sym is) refl)
+    answers-none c.refused.result (A f).args.losses.now _ (c.refused.ensures.0 ∙ sym is) c.refused.ensures.1
 
 sub-line : tie.Need-overflow-sub-line
 sub-line c = search rules
@@ -183,8 +186,8 @@ slice-aggregate-starts-with c = search rules
 starts-with-requires : tie.Need-starts-with-requires
 starts-with-requires c κs = search rules
 
-no-end-requires-2 : tie.Need-no-end-requires-2
-no-end-requires-2 c κs = search rules
+refused-requires-2 : tie.Need-refused-requires-2
+refused-requires-2 c κs = search rules
 
 returns-2 : tie.Need-returns-2
 returns-2 c =
@@ -192,7 +195,7 @@ returns-2 c =
     let e = E t in
     let f = e.before in
     let is = line-is f ∙ numbers-other 7 (ascii "loss=") (most f) (bs f) (at f) f.find.result f.find.ensures (go f) e.if1.left (starts_is t ∙ not-true _ c.before.if2.true) in
-    rw c.no-end2.ensures (ending-none _ (h f) (A f).args.losses.now _ (sym is) refl)
+    answers-none c.refused2.result (A f).args.losses.now _ (c.refused2.ensures.0 ∙ sym is) c.refused2.ensures.1
 
 layer-count-requires : tie.Need-layer-count-requires
 layer-count-requires c κs = search rules
@@ -227,8 +230,8 @@ slice-aggregate-read-joined c = let n = c.before.before.before in omega (arith, 
 read-joined-requires : tie.Need-read-joined-requires
 read-joined-requires c κs = search rules
 
-no-end-requires-3 : tie.Need-no-end-requires-3
-no-end-requires-3 c κs = search rules
+refused-requires-3 : tie.Need-refused-requires-3
+refused-requires-3 c κs = search rules
 
 returns-3 : tie.Need-returns-3
 returns-3 c =
@@ -238,13 +241,13 @@ returns-3 c =
     let f = F n in
     let none-are = by-limits r ∙ none_read _ (sym (not-true _ t.if3.true) ∙ r.read-joined.ensures.0) in
     let is = line-is f ∙ numbers-wrong 7 (ascii "loss=") (most f) (bs f) (at f) f.find.result f.find.ensures (go f) (E (K n).before).if1.false (starts-yes (K n)) (text r) (behind r) none-are in
-    rw c.no-end3.ensures (ending-none _ (h f) (A f).args.losses.now _ (sym is) refl)
+    answers-none c.refused3.result (A f).args.losses.now _ (c.refused3.ensures.0 ∙ sym is) c.refused3.ensures.1
 
-add-end-cells : tie.Need-overflow-add-end-cells
-add-end-cells c = search rules
+add-open-cells : tie.Need-overflow-add-open-cells
+add-open-cells c = search rules
 
-end-cells-requires : tie.Need-end-cells-requires
-end-cells-requires c κs = omega (arith, right-cells (right (A (F (N (R c))))))
+open-cells-requires : tie.Need-open-cells-requires
+open-cells-requires c κs = omega (arith, right-cells (right (A (F (N (R c))))))
 
 enum_told : tie.Need-enum-told
 enum_told c = search rules
@@ -263,34 +266,34 @@ same_length c = search rules
 
 returns-4 : tie.Need-returns-4
 returns-4 c =
-    let k = c.before.before in
-    let m = k.before.before.before in
-    let o = m.before.before in
+    let k = c.before.before.before in
+    let o = c.before.before.before.before.before.before.before.before in
     let e = o.before in
-    let losses = (A (F (N (R e)))).args.losses.now in
-    ending-some _ _ losses (ls (R e)) _ m.enum_told.given.1 (cells_are o) (sym (all_read e)) _ (k.keep.ensures ∙ ap (putting losses 0) (front e _))
+    let accepted = c.before.before.before.before.before.before.enum_told.given.1 in
+    answers-some _ (A (F (N (R e)))).args.losses.now (ls (R e)) _ accepted
+    (cells_are o ∙ ap (λ (q : Refusal). with_losses (some (ls (R e))) (record { refused = details_of q; header = o.open-cells.result.header; losses = none; long = o.open-cells.result.length })) accepted)
+    (sym (all_read e)) _ (k.keep.ensures ∙ ap (putting (A (F (N (R e)))).args.losses.now 0) (front e _))
 
 returns-5 : tie.Need-returns-5
 returns-5 c =
     let o = c.before in
-    let f = F (N (R o.before)) in
-    let r = o.end-cells.result in
-    let no = refusing r.refusal c.match.keys2 in
-    ending-none r (h f) (A f).args.losses.now _ (sym (ended-no r (h f) none no) ∙ ended-no r (h f) _ no ∙ sym (cells_are o)) o.end-cells.ensures.1
+    let e = o.before in
+    let r = o.open-cells.result in
+    answers-none r (A (F (N (R e)))).args.losses.now _ (sym (cells_are o ∙ cond_no _ _ _ (ne_eqb _ 0 (refusing r.refusal c.match.keys2)))) o.open-cells.ensures.1
 
-pub end-told-spec : {M : Type 1} → statement M
-end-told-spec =
+pub open-told-spec : {M : Type 1} → statement M
+open-told-spec =
     tie.close
     (tie.spec
     find-requires
-    no-end-requires
+    refused-requires
     returns
     sub-line
     part-line-start
     part-line-end
     slice-aggregate-starts-with
     starts-with-requires
-    no-end-requires-2
+    refused-requires-2
     returns-2
     layer-count-requires
     slice-aggregate-close-table
@@ -301,10 +304,10 @@ end-told-spec =
     array-borrow-prefix-numbers
     slice-aggregate-read-joined
     read-joined-requires
-    no-end-requires-3
+    refused-requires-3
     returns-3
-    add-end-cells
-    end-cells-requires
+    add-open-cells
+    open-cells-requires
     enum_told
     array-share-prefix-numbers
     slice-aggregate-keep
