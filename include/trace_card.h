@@ -1,6 +1,4 @@
 /* The trace card: a sheet of whole numbers written coarse part first, readable from any cut behind its header, with one figure beside it: how far off any value may be.
- * The figure is guaranteed for cards, cut or whole, that trace_card_write wrote, or the older one without the line of losses: a card made up by others may tell
- * losses that are too small.
  *
  * Every function returns the refusal's number, 0 where the call is accepted. A slice is a pointer to so many elements, then their number; the pointer
  * has to be valid for them (and not null, even of none), and slices that a call writes to must not overlap others. Coefficients and values have rows x cols elements each, or the call
@@ -70,8 +68,7 @@ uint64_t trace_card_write(const int32_t *samples, size_t samples_length, uint64_
 uint64_t trace_card_read(const uint8_t *card, size_t card_length, const uint64_t *plan, size_t plan_length, int32_t *coefficients,
     size_t coefficients_length, int64_t *values, size_t values_length, uint64_t *answer, size_t answer_length);
 
-/* Reads a card, cut or whole, with all the planes that are there. No value is further from its sample than the figure, where trace_card_write or the
- * older one wrote the card; a card made up by others may tell losses that are too small. */
+/* Reads a card, cut or whole, with all the planes that are there. */
 uint64_t trace_card_show(const uint8_t *card, size_t card_length, int32_t *coefficients, size_t coefficients_length, int64_t *values,
     size_t values_length, uint64_t *answer, size_t answer_length);
 
@@ -100,8 +97,7 @@ uint64_t trace_card_preview(const uint8_t *card, size_t card_length, const uint6
     const int32_t *coefficients, size_t coefficients_length, const int64_t *values, size_t values_length, int64_t *next, size_t next_length,
     uint64_t *answer, size_t answer_length);
 
-/* The figure of a plan: how far off any value of a reading with it may be, where trace_card_write or the older one wrote the card; a card made up by
- * others may tell losses that are too small. */
+/* The figure of a plan. */
 uint64_t trace_card_figure(const uint8_t *card, size_t card_length, const uint64_t *plan, size_t plan_length, uint64_t *answer,
     size_t answer_length);
 

@@ -9,14 +9,14 @@ pub use refining::refine;
 pub use writing::write;
 
 // What writing answers: the card's length; 0 beside a refusal.
-#[derive(Drop)]
+#[derive(Clone, Copy)]
 pub struct Written {
     pub refusal: Refusal,
     pub length: usize,
 }
 
 // What reading and refining answer: the plan reached and its figure; 0 beside a refusal.
-#[derive(Drop)]
+#[derive(Clone, Copy)]
 pub struct Reached {
     pub refusal: Refusal,
     pub plan: Plan,

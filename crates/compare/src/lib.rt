@@ -13,7 +13,7 @@ use marking::{first_apart, mark};
 use sheet::Shape;
 
 // What comparing answers: how many points are apart, and row and column of the first; 0 beside a refusal.
-#[derive(Drop)]
+#[derive(Clone, Copy)]
 pub struct Compared {
     pub refusal: Refusal,
     pub number: u64,

@@ -1,5 +1,5 @@
 -- Groups of eight digits: how coefficients are worked out as they are read. Reading itself is said by `value`; that both are the same is a theorem (`guarantee`, Groups).
-use Rattle.std.specs.Prelude.{List, [], ◌∷◌, ℕ, zero, suc, ◌+◌, ◌*◌, ◌/◌, ◌%◌, ℤ, pos, ◌+ℤ◌, ◌*ℤ◌, get_or}
+use Rattle.std.specs.Prelude.{List, [], ◌∷◌, ℕ, zero, suc, ◌/◌, ◌%◌, ℤ, pos, ◌+ℤ◌, ◌*ℤ◌, get_or}
 use Rattle.digits.specs.Digits.{value}
 
 -- the digits that a word's n lowest bits are

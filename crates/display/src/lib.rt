@@ -19,14 +19,14 @@ const MOST_KEY: usize = 8;
 pub const MOST_PIECE: usize = MOST_KEY + MOST_LAYERS * (MOST_CHARACTERS + 1);
 
 // A piece of the text: the first `length` of the bytes; zeros follow.
-#[derive(Drop)]
+#[derive(Clone, Copy)]
 pub struct Piece {
     pub bytes: [u8; MOST_PIECE],
     pub length: usize,
 }
 
 // What is shown of a card but for its values: the number of its refusal, or 0 and the sheet's shape, the planes loaded and the figure.
-#[derive(Drop)]
+#[derive(Clone, Copy)]
 pub struct Shown {
     pub number: u64,
     pub shape: Shape,
@@ -35,7 +35,7 @@ pub struct Shown {
 }
 
 // What is printed of a card as a roll: the number of its refusal, or 0 and how many bytes its lines take.
-#[derive(Drop)]
+#[derive(Clone, Copy)]
 pub struct Rolled {
     pub number: u64,
     pub length: usize,
@@ -43,7 +43,7 @@ pub struct Rolled {
 
 // What is printed of two cards but for the lines of marks: the number of their refusal, or 0 and how many points are apart, row and column of the first, and
 // how many bytes those lines take.
-#[derive(Drop)]
+#[derive(Clone, Copy)]
 pub struct Compared {
     pub number: u64,
     pub apart: u64,
@@ -66,14 +66,14 @@ pub const CHUNK: usize = 4096;
 
 // An input: how many of its bytes were read, and whether a byte 10 follows them. That is looked for only where the bytes fill the buffer and end before a
 // line's byte 10; otherwise nothing hangs on it.
-#[derive(Drop)]
+#[derive(Clone, Copy)]
 pub struct Input {
     pub length: usize,
     pub ends: bool,
 }
 
 // What the bytes of one turn tell of the rest of an input: a byte 10 follows, none does, or more has to be looked at.
-#[derive(Drop)]
+#[derive(Clone, Copy)]
 pub enum Ahead {
     End,
     Nothing,

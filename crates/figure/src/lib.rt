@@ -1,4 +1,6 @@
 // The figure: how a layer carries what stands before it and what it adds of its own, and how far off any value may be.
+#![tactic(auto)]
+
 mod bound;
 mod rules;
 
@@ -8,13 +10,13 @@ pub use rules::{carried, charge, rule_of};
 use sheet::Curve;
 
 // How a layer carries what stands before it: as a curve does.
-#[derive(Drop)]
+#[derive(Clone, Copy)]
 pub struct Rule {
     pub curve: Curve,
 }
 
 // A figure; 0 beside a refusal.
-#[derive(Drop)]
+#[derive(Clone, Copy)]
 pub struct Bounded {
     pub refusal: Refusal,
     pub figure: u64,

@@ -35,7 +35,7 @@ pub const MOST_LOSSES: usize = MOST_LAYERS * MOST_PLACES as usize;
 pub const MOST_TEXT: usize = 512;
 
 // Why a call is refused; `details_of` gives the number and the details.
-#[derive(Drop)]
+#[derive(Clone, Copy)]
 pub enum Refusal {
     Accepted,
     BadSize,
@@ -54,7 +54,7 @@ pub enum Refusal {
 }
 
 // A refusal by number, with two details.
-#[derive(Drop)]
+#[derive(Clone, Copy)]
 pub struct Details {
     pub number: u64,
     pub first: u64,
@@ -62,13 +62,13 @@ pub struct Details {
 }
 
 // Planes loaded from the top, for each layer; 0 past the last.
-#[derive(Drop)]
+#[derive(Clone, Copy)]
 pub struct Plan {
     pub planes: [u64; MOST_LAYERS],
 }
 
 // What a header says: a count of planes for each layer, 0 past the last, and the cells of all of them.
-#[derive(Drop)]
+#[derive(Clone, Copy)]
 pub struct Header {
     pub shape: Shape,
     pub curve: Curve,
@@ -78,7 +78,7 @@ pub struct Header {
 }
 
 // A card's header, how many losses its line tells, 0 for an old card, and how many bytes it has; blank beside a refusal.
-#[derive(Drop)]
+#[derive(Clone, Copy)]
 pub struct Opened {
     pub refusal: Refusal,
     pub header: Header,
@@ -87,7 +87,7 @@ pub struct Opened {
 }
 
 // How a header ends: its bytes, or why it is refused.
-#[derive(Drop)]
+#[derive(Clone, Copy)]
 pub(crate) struct HeaderEnd {
     pub refusal: Refusal,
     pub length: usize,

@@ -14,7 +14,7 @@ use sheet::{MOST_STEP, Shape};
 
 // The lines that cross a row at its points: each has `count` points, `stride` apart, and starts at `start` and the point's column; the point has
 // `place` on it.
-#[derive(Drop)]
+#[derive(Clone, Copy)]
 pub struct Crossing {
     pub start: usize,
     pub stride: usize,
@@ -23,14 +23,14 @@ pub struct Crossing {
 }
 
 // Whether every sample is in range, or where the first one stands that is not.
-#[derive(Drop)]
+#[derive(Clone, Copy)]
 pub enum Scan {
     Clear,
     OutAt { row: usize, col: usize },
 }
 
 // What quantizing answers.
-#[derive(Drop)]
+#[derive(Clone, Copy)]
 pub enum Quantized {
     Done,
     Refused,

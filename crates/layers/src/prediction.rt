@@ -12,7 +12,7 @@ use sheet::{Curve, Direction, MOST_STEP, Shape};
 
 // A line is the lent sheet with a first point, a spacing and a count. Its spacing is called its stride, since a layer has a
 // spacing too.
-#[derive(Drop)]
+#[derive(Clone, Copy)]
 pub struct Line<'a> {
     pub values: &'a [i64],
     pub start: usize,

@@ -42,7 +42,7 @@ pub fn cells_before(header: Header, layer: usize, p: u64) -> u64
 }
 
 // The planes found whole so far in card order, and the cells passed.
-#[derive(Drop)]
+#[derive(Clone, Copy)]
 struct Found {
     planes: [u64; MOST_LAYERS],
     cells: u64,

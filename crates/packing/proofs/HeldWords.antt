@@ -65,8 +65,8 @@ module _ (sh : Shape) (ok : accepted sh ≡ true) (qs : List ℤ) (full : length
       let e = word_at sh qs ws g k i hk hi in
       word_held (at qs (point_of sh k i)) (omega (arith, reach.high, range-23))
 
-  all_held : ((k : ℕ) → k < layers_most → count_at sh ws k ≤ places_most) → (p : ℕ) → holds places_most (at qs p) ≡ true
-  all_held few p =
+  all_held_lem : ((k : ℕ) → k < layers_most → count_at sh ws k ≤ places_most) → (p : ℕ) → holds places_most (at qs p) ≡ true
+  all_held_lem few p =
       elim (dec_lt p (points sh)) [
         | yes hp ↦
             let proper = sheet-proper sh ok Linear in
@@ -93,7 +93,7 @@ module _ (sh : Shape) (ok : accepted sh ≡ true) (qs : List ℤ) (full : length
     count_at_lem k l = ap (λ (x : List ℕ). get_or x k 0) counted ∙ get_d_tabulate layers_most (count_at sh ws) k 0 l
 
     pub held-each : over ≡ layers_most → (p : ℕ) → holds places_most (at qs p) ≡ true
-    held-each e = all_held (λ k l. omega (arith, count_at_lem k l, over_none limit (λ k. get_or planes k 0) e k l, get_or-replicate layers_most k places_most 0 l))
+    held-each e = all_held_lem (λ k l. omega (arith, count_at_lem k l, over_none limit (λ k. get_or planes k 0) e k l, get_or-replicate layers_most k places_most 0 l))
 
     pub held_none : over < layers_most → all_held qs ≡ false
     unfolding all_held

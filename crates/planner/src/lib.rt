@@ -1,4 +1,6 @@
 // The planner: the best plan of a card by a limit on its figure, or in so many cells.
+#![tactic(auto)]
+
 ghost use Rattle.std.specs.Prelude.{◌≡◌};
 ghost use Rattle.header.specs.Refusals as R;
 ghost use Rattle.planner.specs.Planning as N;
@@ -10,7 +12,7 @@ use header::{MOST_LAYERS, MOST_LOSSES, Plan, Refusal};
 use searching::{search_by_cells, search_by_limit};
 
 // What planning answers: a plan, its cells and its figure; 0 beside a refusal.
-#[derive(Drop)]
+#[derive(Clone, Copy)]
 pub struct Planned {
     pub refusal: Refusal,
     pub plan: Plan,

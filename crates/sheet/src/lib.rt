@@ -24,7 +24,7 @@ pub const MOST_LAYERS: usize = 1 + MOST_DIRECTIONS * MOST_LEVELS;
 pub const MOST_STEP: u64 = 65535;
 
 // Rows, columns and levels, as the caller gives them; and the depth, which is 1 of a sheet by itself.
-#[derive(Drop)]
+#[derive(Clone, Copy)]
 pub struct Shape {
     pub depth: usize,
     pub rows: usize,
@@ -33,13 +33,13 @@ pub struct Shape {
 }
 
 // What a layer is predicted by.
-#[derive(Drop)]
+#[derive(Clone, Copy)]
 pub enum Curve {
     Linear,
     Cubic,
 }
 
-#[derive(Drop)]
+#[derive(Clone, Copy)]
 pub enum Direction {
     Anchor,
     Across,
@@ -49,7 +49,7 @@ pub enum Direction {
 
 // A layer's number, direction and spacing, worked out once, and its points: rows row, row + down, .. and columns col, col + right, .. of the
 // sheets sheet, sheet + deep, ..
-#[derive(Drop)]
+#[derive(Clone, Copy)]
 pub struct Grid {
     pub layer: usize,
     pub direction: Direction,
@@ -64,7 +64,7 @@ pub struct Grid {
 
 // A layer as lines: its first point, how many lines and how far apart, and on each how many points and how far apart; and how many sheets of
 // such lines, and how far apart.
-#[derive(Drop)]
+#[derive(Clone, Copy)]
 pub struct Lines {
     pub first: usize,
     pub sheets: usize,

@@ -12,14 +12,14 @@ pub use joined::{characters, joined_fits, put_joined, put_number, read_joined};
 pub const MOST_CHARACTERS: usize = 20;
 
 // A number that was read, or a text that is not one.
-#[derive(Drop)]
+#[derive(Clone, Copy)]
 pub enum Number {
     Value(u64),
     Wrong,
 }
 
 // A line that was read: no byte 10 left, not the line asked for, or its number and its length with byte 10.
-#[derive(Drop)]
+#[derive(Clone, Copy)]
 pub enum Line {
     Short,
     Wrong,

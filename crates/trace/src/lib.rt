@@ -7,7 +7,7 @@ use display::{BUFFER, Input};
 use libc::{STDERR_FILENO, STDIN_FILENO};
 
 // What to do: with the card on standard input, or with the two that are named.
-#[derive(Drop)]
+#[derive(Clone, Copy)]
 pub enum Word {
     Show,
     Roll,

@@ -20,8 +20,7 @@ fn unless_refused(number: u64, plan: Plan) -> Plan
 }
 
 // The figure of a plan of a card.
-#[unsafe(no_mangle)]
-pub extern "C" fn trace_card_figure(card: &[u8], plan: &[u64], answer: &mut [u64]) -> u64
+pub fn trace_card_figure(card: &[u8], plan: &[u64], answer: &mut [u64]) -> u64
     ensures { B.asked result answer.new ≡ B.figure_call card.now plan.now answer.old }
 {
     if answer.len() != ANSWER {

@@ -28,8 +28,7 @@ fn put_compared(answer: &mut [u64], compared: Compared) -> u64
 }
 
 // Compares what two cards show, each in its two slices: for each point 1 where they are apart, otherwise 0.
-#[unsafe(no_mangle)]
-pub extern "C" fn trace_card_compare(
+pub fn trace_card_compare(
     first: &[u8],
     second: &[u8],
     coefficients1: &mut [i32],

@@ -24,8 +24,7 @@ fn put_planned(answer: &mut [u64], planned: Planned) -> u64
 }
 
 // The plan with the fewest cells whose figure is at most the limit.
-#[unsafe(no_mangle)]
-pub extern "C" fn trace_card_plan_by_limit(card: &[u8], limit: u64, answer: &mut [u64]) -> u64
+pub fn trace_card_plan_by_limit(card: &[u8], limit: u64, answer: &mut [u64]) -> u64
     ensures { B.asked result answer.new ≡ B.limit_call card.now limit answer.old }
 {
     if answer.len() != ANSWER {
@@ -36,8 +35,7 @@ pub extern "C" fn trace_card_plan_by_limit(card: &[u8], limit: u64, answer: &mut
 }
 
 // The plan with the smallest figure in at most so many cells.
-#[unsafe(no_mangle)]
-pub extern "C" fn trace_card_plan_by_cells(card: &[u8], cells: u64, answer: &mut [u64]) -> u64
+pub fn trace_card_plan_by_cells(card: &[u8], cells: u64, answer: &mut [u64]) -> u64
     ensures { B.asked result answer.new ≡ B.cells_call card.now cells answer.old }
 {
     if answer.len() != ANSWER {

@@ -8,8 +8,7 @@ use crate::reading::put_reached;
 use sheet::MOST_LAYERS;
 
 // Shows in `next` what adding the next plane of a layer would make of the values.
-#[unsafe(no_mangle)]
-pub extern "C" fn trace_card_preview(
+pub fn trace_card_preview(
     card: &[u8],
     plan: &[u64],
     layer: u64,

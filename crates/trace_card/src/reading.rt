@@ -19,8 +19,7 @@ pub(crate) fn put_reached(answer: &mut [u64], reached: Reached) -> u64
 }
 
 // Reads a card, truncated or whole, with a plan.
-#[unsafe(no_mangle)]
-pub extern "C" fn trace_card_read(
+pub fn trace_card_read(
     card: &[u8],
     plan: &[u64],
     coefficients: &mut [i32],
@@ -40,8 +39,7 @@ pub extern "C" fn trace_card_read(
 }
 
 // Reads a card, truncated or whole, with all the planes that are there.
-#[unsafe(no_mangle)]
-pub extern "C" fn trace_card_show(
+pub fn trace_card_show(
     card: &[u8],
     coefficients: &mut [i32],
     values: &mut [i64],
@@ -57,8 +55,7 @@ pub extern "C" fn trace_card_show(
 }
 
 // Adds the next plane of a layer to a reading with a plan.
-#[unsafe(no_mangle)]
-pub extern "C" fn trace_card_refine(
+pub fn trace_card_refine(
     card: &[u8],
     plan: &[u64],
     layer: u64,

@@ -6,8 +6,7 @@ use crate::ANSWER;
 use crate::reading::put_reached;
 
 // Shows a card and prints what it shows on the page.
-#[unsafe(no_mangle)]
-pub extern "C" fn trace_card_roll(
+pub fn trace_card_roll(
     card: &[u8],
     coefficients: &mut [i32],
     values: &mut [i64],

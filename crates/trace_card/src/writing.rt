@@ -65,8 +65,7 @@ fn write_by(
 }
 
 // Writes a sheet of rows by cols samples: coefficients, the values as they will be read, and the card at the front of the output.
-#[unsafe(no_mangle)]
-pub extern "C" fn trace_card_write(
+pub fn trace_card_write(
     samples: &[i32],
     rows: u64,
     cols: u64,

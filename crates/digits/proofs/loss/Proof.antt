@@ -9,16 +9,17 @@ use borrow.Author.Rules.{rules}
 use Rattle.digits.proofs.loss.Statement.{statement}
 use Rattle.digits.proofs.loss.Tie as tie
 
-clamped-requires : tie.Need-clamped-requires
+clamped-requires : tie.Need-clamped-n-requires
 clamped-requires c κs = search rules
 
-shl-result : tie.Need-overflow-shl-result
+shl-result : tie.Need-overflow_shl-result
 shl-result c = search rules
 
 returns : tie.Need-returns
 returns c =
-    let n = c.clamped.result in
-    omega (arith, loss-half n, pow_mono {i = n} {j = digits_most} (omega arith), ap D.loss c.clamped.ensures)
+    let n = c.clamped-n.result in
+    omega (arith, loss-half n, pow_mono {i = n} {j = digits_most} (omega arith), ap D.loss c.clamped-n.ensures)
 
-pub loss-spec : {M : Type 1} → statement M
-loss-spec = tie.close (tie.spec clamped-requires shl-result returns)
+pub loss_spec : {M : Type 1} → statement M
+loss_spec =
+    tie.close (tie.spec clamped-requires shl-result returns)

@@ -36,56 +36,56 @@ few n h =
       below = omega (arith, about n, apart n);
     }
 
-abbrev N : tie.After-clamped → ℕ
-N c = c.clamped.result
+abbrev N : tie.After-clamped-n → ℕ
+N c = c.clamped-n.result
 
-small : (c : tie.After-clamped) → Few (N c)
-small c = few (N c) (omega (arith, c.clamped.ensures))
+small : (c : tie.After-clamped-n) → Few (N c)
+small c = few (N c) (omega (arith, c.clamped-n.ensures))
 
-returns : tie.Need-returns
-returns c = let e : min c.before.args.d digits_most ≡ 0 = omega (arith, c.if1.true) in sym (ap D.middle e ∙ middle-none)
+returns : tie.Need-returns-then-d-eq0
+returns c = let e : min c.before.args.d digits_most ≡ 0 = omega (arith, c.if-d-eq0.true) in sym (ap D.middle e ∙ middle-none)
 
-clamped-requires : tie.Need-clamped-requires
+clamped-requires : tie.Need-clamped-n-requires
 clamped-requires c κs = search rules
 
-add-largest : tie.Need-overflow-add-largest
+add-largest : tie.Need-overflow_add-largest
 add-largest c = search rules
 
-shl-largest : tie.Need-overflow-shl-largest
+shl-largest : tie.Need-overflow_shl-largest
 shl-largest c = search rules
 
-sub-largest : tie.Need-overflow-sub-largest
+sub-largest : tie.Need-overflow_sub-largest
 sub-largest c = omega (arith, small c)
 
-cast-result : tie.Need-overflow-cast-result
+cast-result : tie.Need-overflow_cast-result
 cast-result c = search rules
 
 loss-requires : tie.Need-loss-requires
 loss-requires c κs = search rules
 
 lost-is : (c : tie.After-loss) → c.loss.result ≡ D.loss (N c.before)
-lost-is c = c.loss.ensures ∙ ap D.loss (sym c.before.clamped.ensures)
+lost-is c = c.loss.ensures ∙ ap D.loss (sym c.before.clamped-n.ensures)
 
-cast-result-2 : tie.Need-overflow-cast-result-2
+cast-result-2 : tie.Need-overflow_cast-result-2
 cast-result-2 c = record { sfits = omega (arith, lost-is c, (small c.before).lost) }
 
-sub-result : tie.Need-overflow-sub-result
+sub-result : tie.Need-overflow_sub-result
 sub-result c =
     sfits-by (cast (cast-result c.before) ⊖ cast (cast-result-2 c)) (omega (arith, lost-is c, small c.before))
 
-cast-result-3 : tie.Need-overflow-cast-result-3
+cast-result-3 : tie.Need-overflow_cast-result-3
 cast-result-3 c =
     sfits-by (bits (sub-result c) (cast (cast-result c.before) ⊖ cast (cast-result-2 c)))
     (omega (arith, lost-is c, small c.before, about (N c.before)))
 
-returns-2 : tie.Need-returns-2
+returns-2 : tie.Need-returns
 returns-2 c =
     eq-by (bits (cast-result-3 c) (bits (sub-result c) (cast (cast-result c.before) ⊖ cast (cast-result-2 c)))) (# (D.middle (N c.before)))
     (omega (arith, lost-is c, (small c.before).power, about (N c.before)))
-    ∙ ap D.middle c.before.clamped.ensures
+    ∙ ap D.middle c.before.clamped-n.ensures
 
-pub middle-spec : {M : Type 1} → statement M
-middle-spec =
+pub middle_spec : {M : Type 1} → statement M
+middle_spec =
     tie.close
     (tie.spec
     returns

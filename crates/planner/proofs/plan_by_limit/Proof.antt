@@ -7,61 +7,61 @@ use Rattle.planner.proofs.PlanCall.{limit-refused, limit-low, limit-found}
 use Rattle.planner.proofs.plan_by_limit.Statement.{statement}
 use Rattle.planner.proofs.plan_by_limit.Tie as tie
 
-abbrev S : tie.After-open-with-losses → tie.Start
+abbrev S : tie.After-open_with_losses-opened → tie.Start
 S c = c.before.before.before
 
 -- what was opened
-abbrev O : tie.After-enum-told → tie.After-open-with-losses
-O c = c.before.before.before
+abbrev O : tie.In-Accepted → tie.After-open_with_losses-opened
+O c = c.before.before
 
-slice-aggregate-open-with-losses : tie.Need-slice-aggregate-open-with-losses
+slice-aggregate-open-with-losses : tie.Need-slice_bounds-open_with_losses-end
 slice-aggregate-open-with-losses c = search rules
 
-open-with-losses-requires : tie.Need-open-with-losses-requires
+open-with-losses-requires : tie.Need-open_with_losses-opened-requires
 open-with-losses-requires c κs = search rules
 
-enum_told : tie.Need-enum-told
+enum_told : tie.Need-enum_told-1
 enum_told c = search rules
 
 refused-requires : tie.Need-refused-requires
 refused-requires c κs = search rules
 
-returns : tie.Need-returns
+returns : tie.Need-returns-then-limit-header
 returns c =
     let t = c.before.before.before.before in
     let o = O t in
-    c.refused.ensures ∙ limit-low (S o).args.bytes.now o.open-with-losses.result o.open-with-losses.ensures.0 t.enum_told.given.1 (S o).args.limit c.before.if1.true
+    c.refused.ensures ∙ limit-low (S o).args.bytes.now o.open_with_losses-opened.result o.open_with_losses-opened.ensures.0 t.in-Accepted.is (S o).args.limit c.before.if-limit-header.true
 
-array-share-prefix-table : tie.Need-array-share-prefix-table
-array-share-prefix-table c = let o = O c.before.before.before in told-room (S o).args.bytes.now _ o.open-with-losses.ensures.1.1 _ o.open-with-losses.ensures.1.0
+array-share-prefix-table : tie.Need-slice_bounds-table-end
+array-share-prefix-table c = let o = O c.before.before.before in told-room (S o).args.bytes.now _ o.open_with_losses-opened.ensures.1.1 _ o.open_with_losses-opened.ensures.1.0
 
-slice-aggregate-search-by-limit : tie.Need-slice-aggregate-search-by-limit
+slice-aggregate-search-by-limit : tie.Need-slice_bounds-search_by_limit-end
 slice-aggregate-search-by-limit c = sym (length-take-le _ _ (array-share-prefix-table c.before))
 
-search-by-limit-requires : tie.Need-search-by-limit-requires
+search-by-limit-requires : tie.Need-search_by_limit-requires
 search-by-limit-requires c κs =
     let t = c.before.before.before.before in
     let o = O t in
-    (header-right (S o).args.bytes.now o.open-with-losses.result _ o.open-with-losses.ensures.0 t.enum_told.given.1, c.before.if1.false)
+    (header-right (S o).args.bytes.now o.open_with_losses-opened.result _ o.open_with_losses-opened.ensures.0 t.in-Accepted.is, c.before.if-limit-header.false)
 
-refused-requires-2 : tie.Need-refused-requires-2
+refused-requires-2 : tie.Need-refused-requires-in_default
 refused-requires-2 c κs = search rules
 
-returns-2 : tie.Need-returns-2
+returns-2 : tie.Need-returns-else-limit-header
 returns-2 c =
     let t = c.before.before.before.before.before in
     let o = O t in
-    c.search-by-limit.ensures
-    ∙ limit-found (S o).args.bytes.now o.open-with-losses.result o.open-with-losses.ensures.0 t.enum_told.given.1 (S o).args.limit c.before.before.if1.false
-    _ (told-front (S o).args.bytes.now _ o.open-with-losses.ensures.1.1 _ o.open-with-losses.ensures.1.0)
+    c.search_by_limit.ensures
+    ∙ limit-found (S o).args.bytes.now o.open_with_losses-opened.result o.open_with_losses-opened.ensures.0 t.in-Accepted.is (S o).args.limit c.before.before.if-limit-header.false
+    _ (told-front (S o).args.bytes.now _ o.open_with_losses-opened.ensures.1.1 _ o.open_with_losses-opened.ensures.1.0)
 
-returns-3 : tie.Need-returns-3
+returns-3 : tie.Need-returns-in_default
 returns-3 c =
     let o = c.before.before.before in
-    c.refused2.ensures ∙ limit-refused (S o).args.bytes.now o.open-with-losses.result o.open-with-losses.ensures.0 (refusing o.open-with-losses.result.refusal c.before.match.keys2) (S o).args.limit
+    c.refused-in_default.ensures ∙ limit-refused (S o).args.bytes.now o.open_with_losses-opened.result o.open_with_losses-opened.ensures.0 (refusing o.open_with_losses-opened.result.refusal c.before.in_default.in_default-own.keys2) (S o).args.limit
 
-pub plan-by-limit-spec : {M : Type 1} → statement M
-plan-by-limit-spec =
+pub plan_by_limit_spec : {M : Type 1} → statement M
+plan_by_limit_spec =
     tie.close
     (tie.spec
     slice-aggregate-open-with-losses

@@ -15,27 +15,28 @@ use Rattle.digits.proofs.table.entry.Statement.{statement}
 use Rattle.digits.proofs.table.entry.Tie as tie
 
 -- the element
-abbrev E : tie.After-value → ℤ
+abbrev E : tie.After-value-1 → ℤ
 E c = get_or c.before.args.table.now (c.before.args.word % 256) (pos 0)
 
-abbrev read : (c : tie.After-value) → Diff (to_z w32 (of_z w32 (E c)))
-read c = told w32 (E c) c.value.given
+abbrev read : (c : tie.After-value-1) → Diff (to_z w32 (of_z w32 (E c)))
+read c = told w32 (E c) c.value-1.given
 
-cast-value : tie.Need-overflow-cast-value
+cast-value : tie.Need-overflow_cast-value
 cast-value c = search rules
 
-mul-value : tie.Need-overflow-mul-value
+mul-value : tie.Need-offset_bounds-table-word
 mul-value c = search rules
 
-element-copy-out-value : tie.Need-element-copy-out-value
+element-copy-out-value : tie.Need-bounds-table-word
 element-copy-out-value c = search rules
 
-cast-result : tie.Need-overflow-cast-result
-cast-result c = sfits-by (read c) (omega (arith, mag-at (E c) c.value.given))
+cast-result : tie.Need-overflow_cast-result
+cast-result c = sfits-by (read c) (omega (arith, mag-at (E c) c.value-1.given))
 
 returns : tie.Need-returns
 unfolding entry
-returns c = (eq-by (bits (cast-result c) (read c)) (# (E c)) (omega arith), within_by (# (E c)) (omega (arith, mag-at (E c) c.value.given)))
+returns c = (eq-by (bits (cast-result c) (read c)) (# (E c)) (omega arith), within_by (# (E c)) (omega (arith, mag-at (E c) c.value-1.given)))
 
 pub entry_spec : {M : Type 1} → statement M
-entry_spec = tie.close (tie.spec cast-value mul-value element-copy-out-value cast-result returns)
+entry_spec =
+    tie.close (tie.spec cast-value mul-value element-copy-out-value cast-result returns)

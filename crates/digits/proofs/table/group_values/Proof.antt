@@ -9,5 +9,6 @@ returns : tie.Need-returns
 unfolding group_values groups_from value bits_of
 returns c = refl
 
-pub group-values-spec : {M : Type 1} → statement M
-group-values-spec = tie.close (tie.spec returns)
+pub group_values_spec : {M : Type 1} → statement M
+group_values_spec =
+    tie.close (tie.spec returns)

@@ -2,30 +2,30 @@
 use mathlib.Core.Bool.{true, false}
 use mathlib.Core.Path.{◌≡◌, sym, ◌∙◌}
 use borrow.Author.Rules.{rules}
-use borrow.Author.Tests.{not-true, not-false}
 use Rattle.header.specs.Opening.{well_formed}
 use Rattle.figure.specs.Workings.{bound_of}
 use Rattle.figure.proofs.FigureCall.{bound_of_lem}
 use Rattle.figure.proofs.bound.error_bound.Statement.{statement}
 use Rattle.figure.proofs.bound.error_bound.Tie as tie
 
-is_true : (c : tie.Else1) → well_formed c.before.before.before.args.header ≡ true
-is_true c = sym c.before.is-well-formed.ensures ∙ not-false _ c.if1.false
+is_true : (c : tie.Else-not-is_well_formed) → well_formed c.before.before.before.args.header ≡ true
+is_true c = sym c.before.is_well_formed.ensures ∙ c.if-not-is_well_formed.false
 
-is-well-formed-requires : tie.Need-is-well-formed-requires
+is-well-formed-requires : tie.Need-is_well_formed-requires
 is-well-formed-requires c κs = search rules
 
-returns : tie.Need-returns
+returns : tie.Need-returns-then-not-is_well_formed
 unfolding bound_of
-returns c = let no : well_formed c.before.before.before.args.header ≡ false = sym c.before.is-well-formed.ensures ∙ not-true _ c.if1.true in rw no
+returns c = let no : well_formed c.before.before.before.args.header ≡ false = sym c.before.is_well_formed.ensures ∙ c.if-not-is_well_formed.true in rw no
 
 bounded-requires : tie.Need-bounded-requires
 bounded-requires c κs = is_true c
 
-returns-2 : tie.Need-returns-2
+returns-2 : tie.Need-returns
 returns-2 c =
     let s = c.before.before.before.before in
     c.bounded.ensures ∙ bound_of_lem s.args.header s.args.losses.now s.args.plan (is_true c.before)
 
-pub error-bound-spec : {M : Type 1} → statement M
-error-bound-spec = tie.close (tie.spec is-well-formed-requires returns bounded-requires returns-2)
+pub error_bound_spec : {M : Type 1} → statement M
+error_bound_spec =
+    tie.close (tie.spec is-well-formed-requires returns bounded-requires returns-2)

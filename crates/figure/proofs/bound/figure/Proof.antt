@@ -7,59 +7,50 @@ use Rattle.figure.proofs.FigureCall.{bound-refused, bound-opened}
 use Rattle.figure.proofs.bound.figure.Statement.{statement}
 use Rattle.figure.proofs.bound.figure.Tie as tie
 
-abbrev S : tie.After-open-with-losses → tie.Start
-S c = c.before.before.before
+opened-bounds : tie.Need-slice_bounds-open_with_losses-end
+opened-bounds c = search rules
 
--- what was opened
-abbrev O : tie.After-enum-told → tie.After-open-with-losses
-O c = c.before.before.before
+opened-requires : tie.Need-open_with_losses-opened-requires
+opened-requires c κs = search rules
 
-slice-aggregate-open-with-losses : tie.Need-slice-aggregate-open-with-losses
-slice-aggregate-open-with-losses c = search rules
-
-open-with-losses-requires : tie.Need-open-with-losses-requires
-open-with-losses-requires c κs = search rules
-
-enum_told : tie.Need-enum-told
+enum_told : tie.Need-enum_told-1
 enum_told c = search rules
 
-array-share-prefix-table : tie.Need-array-share-prefix-table
-array-share-prefix-table c =
-    let o = O c.before in
-    told-room (S o).args.bytes.now _ o.open-with-losses.ensures.1.1 _ o.open-with-losses.ensures.1.0
+table-bounds : tie.Need-slice_bounds-table-end
+table-bounds c =
+    let o = c.open_with_losses-opened.ensures in
+    told-room c.args.bytes.now _ o.1.1 _ o.1.0
 
-slice-aggregate-bounded : tie.Need-slice-aggregate-bounded
-slice-aggregate-bounded c = sym (length-take-le _ _ (array-share-prefix-table c.before))
+bounded-bounds : tie.Need-slice_bounds-bounded-end
+bounded-bounds c = sym (length-take-le _ _ (table-bounds c.before))
 
 bounded-requires : tie.Need-bounded-requires
 bounded-requires c κs =
-    let e = c.before.before in
-    let o = O e in
-    header-right (S o).args.bytes.now o.open-with-losses.result _ o.open-with-losses.ensures.0 e.enum_told.given.1
+    let o = c.open_with_losses-opened in
+    header-right c.args.bytes.now o.result _ o.ensures.0 c.in-Accepted.is
 
-returns : tie.Need-returns
+returns : tie.Need-returns-in-Accepted
 returns c =
-    let e = c.before.before.before in
-    let o = O e in
-    let bs = (S o).args.bytes.now in
+    let o = c.open_with_losses-opened in
+    let bs = c.args.bytes.now in
     c.bounded.ensures
-    ∙ bound-opened bs (S o).args.plan o.open-with-losses.result o.open-with-losses.ensures.0 e.enum_told.given.1
-    _ (told-front bs _ o.open-with-losses.ensures.1.1 _ o.open-with-losses.ensures.1.0)
+    ∙ bound-opened bs c.args.plan o.result o.ensures.0 c.in-Accepted.is
+    _ (told-front bs _ o.ensures.1.1 _ o.ensures.1.0)
 
-returns-2 : tie.Need-returns-2
+returns-2 : tie.Need-returns-in_default
 returns-2 c =
-    let o = c.before.before in
-    bound-refused (S o).args.bytes.now (S o).args.plan o.open-with-losses.result o.open-with-losses.ensures.0 (refusing o.open-with-losses.result.refusal c.match.keys2)
+    let o = c.open_with_losses-opened in
+    bound-refused c.args.bytes.now c.args.plan o.result o.ensures.0 (refusing o.result.refusal c.in_default.in_default-own.keys2)
 
-pub figure-spec : {M : Type 1} → statement M
-figure-spec =
+pub figure_spec : {M : Type 1} → statement M
+figure_spec =
     tie.close
     (tie.spec
-    slice-aggregate-open-with-losses
-    open-with-losses-requires
+    opened-bounds
+    opened-requires
     enum_told
-    array-share-prefix-table
-    slice-aggregate-bounded
+    table-bounds
+    bounded-bounds
     bounded-requires
     returns
     returns-2)

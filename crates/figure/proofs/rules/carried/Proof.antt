@@ -6,30 +6,30 @@ use Rattle.layers.specs.Carry as C
 use Rattle.figure.proofs.rules.carried.Statement.{statement}
 use Rattle.figure.proofs.rules.carried.Tie as tie
 
-enum_told : tie.Need-enum-told
+enum_told : tie.Need-enum_told-1
 enum_told c = search rules
 
-enum-told-2 : tie.Need-enum-told-2
+enum-told-2 : tie.Need-enum_told-in-Cubic
 enum-told-2 c = search rules
 
-returns : tie.Need-returns
+returns : tie.Need-returns-then-m-gt-MOST_CARRIED
 unfolding C.carried ceil_div
-returns c = rw c.before.enum-told2.given.1 (omega arith)
+returns c = rw c.in-Cubic.is (omega arith)
 
-add-result : tie.Need-overflow-add-result
+add-result : tie.Need-overflow_add-result
 add-result c = search rules
 
-add-result-2 : tie.Need-overflow-add-result-2
+add-result-2 : tie.Need-overflow_add-result-in-Cubic
 add-result-2 c = search rules
 
-returns-2 : tie.Need-returns-2
+returns-2 : tie.Need-returns-in-Linear
 unfolding C.carried
-returns-2 c = rw c.enum_told.given.1 (omega arith)
+returns-2 c = rw c.in-Linear.is (omega arith)
 
-returns-3 : tie.Need-returns-3
+returns-3 : tie.Need-returns-else-m-gt-MOST_CARRIED
 unfolding C.carried ceil_div
-returns-3 c = rw c.before.enum-told2.given.1 (omega arith)
+returns-3 c = rw c.in-Cubic.is (omega arith)
 
-pub carried-spec : {M : Type 1} → statement M
-carried-spec =
+pub carried_spec : {M : Type 1} → statement M
+carried_spec =
     tie.close (tie.spec enum_told enum-told-2 returns add-result add-result-2 returns-2 returns-3)

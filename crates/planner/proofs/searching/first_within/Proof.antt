@@ -10,46 +10,46 @@ use Rattle.planner.proofs.LastRow.{first-here, first-last}
 use Rattle.planner.proofs.searching.first_within.Statement.{statement}
 use Rattle.planner.proofs.searching.first_within.Tie as tie
 
-abbrev invariant-loop : tie.invariant-loop
+abbrev invariant-loop : tie.invariant-loop-c
 invariant-loop t room c₀ c = (c < row_length) × ((b : ℕ) → b < c → room < get_or t (layers_most * row_length + b) 0)
 
-abbrev decreases-loop : tie.decreases-loop
+abbrev decreases-loop : tie.decreases-loop-c
 decreases-loop t room c₀ c = row_length - c
 
-loop-holds : tie.Need-loop-init invariant-loop decreases-loop
+loop-holds : tie.Need-loop-c-init invariant-loop decreases-loop
 loop-holds c = (omega arith, below_none _)
 
-mul-if1 : tie.Need-overflow-mul-if1 invariant-loop decreases-loop
+mul-if1 : tie.Need-overflow_mul-t-5 invariant-loop decreases-loop
 mul-if1 c = search rules
 
-add-if1 : tie.Need-overflow-add-if1 invariant-loop decreases-loop
+add-if1 : tie.Need-overflow_add-c invariant-loop decreases-loop
 add-if1 c = search rules
 
-mul-if1-2 : tie.Need-overflow-mul-if1-2 invariant-loop decreases-loop
+mul-if1-2 : tie.Need-offset_bounds-t-c invariant-loop decreases-loop
 mul-if1-2 c = search rules
 
-shared-slice-read-if1 : tie.Need-shared-slice-read-if1 invariant-loop decreases-loop
+shared-slice-read-if1 : tie.Need-bounds-t-c invariant-loop decreases-loop
 shared-slice-read-if1 c = search rules
 
-returns : tie.Need-returns invariant-loop decreases-loop
+returns : tie.Need-returns-then-t-c invariant-loop decreases-loop
 returns c =
-    let l = c.before.before.before.loop in
-    first-here _ _ l.c l.invariant.1 l.invariant.0 (omega (arith, c.if1.true))
+    let l = c.before.before.before.loop-c in
+    first-here _ _ l.c l.invariant.1 l.invariant.0 (omega (arith, c.if-t-c.true))
 
-add-c : tie.Need-overflow-add-c invariant-loop decreases-loop
+add-c : tie.Need-overflow_step-c invariant-loop decreases-loop
 add-c c = search rules
 
-loop-less : tie.Need-loop-smaller invariant-loop decreases-loop
+loop-less : tie.Need-loop-c-smaller invariant-loop decreases-loop
 loop-less c = search rules
 
-loop-again : tie.Need-loop-preserved invariant-loop decreases-loop
-loop-again c = (omega arith, below_more _ _ c.before.before.before.loop.invariant.1 (omega (arith, c.if1.false)))
+loop-again : tie.Need-loop-c-preserved invariant-loop decreases-loop
+loop-again c = (omega arith, below_more _ _ c.before.before.before.loop-c.invariant.1 (omega (arith, c.if-t-c.false)))
 
-returns-2 : tie.Need-returns-2 invariant-loop decreases-loop
-returns-2 c = let l = c.before.loop in first-last _ _ _ (λ b m. l.invariant.1 b (omega arith)) (omega arith)
+returns-2 : tie.Need-returns invariant-loop decreases-loop
+returns-2 c = let l = c.before.loop-c in first-last _ _ _ (λ b m. l.invariant.1 b (omega arith)) (omega arith)
 
-pub first-within-spec : {M : Type 1} → statement M
-first-within-spec =
+pub first_within_spec : {M : Type 1} → statement M
+first_within_spec =
     tie.close
     (tie.spec
     invariant-loop

@@ -15,7 +15,7 @@ use Rattle.planner.proofs.PlanCall.{found-answer}
 use Rattle.planner.proofs.searching.search_by_limit.Statement.{statement}
 use Rattle.planner.proofs.searching.search_by_limit.Tie as tie
 
-abbrev F : tie.After-first-within → tie.After-fill
+abbrev F : tie.After-first_within-size → tie.After-fill
 F c = c.before.before.before.before.before
 
 abbrev S : tie.After-fill → tie.Start
@@ -25,62 +25,62 @@ abbrev Ls : tie.After-fill → List ℕ
 Ls c = (S c).args.losses.now
 
 known : (c : tie.After-fill) → Small (Ls c)
-known c i = omega (arith, c.before.before.before.shared-slice-known.given i)
+known c i = omega (arith, c.before.before.before.shared_slice_known-1.given i)
 
 -- what is found
-first : (c : tie.After-first-within) → FirstWithin (best (layers_of (S (F c)).args.header (Ls (F c))) layers_most) c.before.before.room_of.result c.first-within.result
-first c = first-best (layers_of (S (F c)).args.header (Ls (F c))) _ (F c).fill.ensures c.before.before.room_of.result c.first-within.result c.first-within.ensures
+first : (c : tie.After-first_within-size) → FirstWithin (best (layers_of (S (F c)).args.header (Ls (F c))) layers_most) c.before.before.room_of-room.result c.first_within-size.result
+first c = first-best (layers_of (S (F c)).args.header (Ls (F c))) _ (F c).fill.ensures c.before.before.room_of-room.result c.first_within-size.result c.first_within-size.ensures
 
-reached : (c : tie.After-first-within) → best (layers_of (S (F c)).args.header (Ls (F c))) layers_most c.first-within.result < none
+reached : (c : tie.After-first_within-size) → best (layers_of (S (F c)).args.header (Ls (F c))) layers_most c.first_within-size.result < none
 reached c =
     let s = S (F c) in
-    limit-reached s.args.header s.pre.0 (Ls (F c)) (known (F c)) s.args.limit c.before.before.room_of.result c.first-within.result c.before.before.room_of.ensures (first c)
+    limit-reached s.args.header s.requires.0 (Ls (F c)) (known (F c)) s.args.limit c.before.before.room_of-room.result c.first_within-size.result c.before.before.room_of-room.ensures (first c)
 
 -- the arrays are as long as their types say
 long : (s : tie.Start) → length s.args.header.planes ≡ layers_most
 long s = search rules
 
-long-plan : (c : tie.After-plan-in) → length c.plan-in.result.plan.planes ≡ layers_most
+long-plan : (c : tie.After-plan_in) → length c.plan_in.result.plan.planes ≡ layers_most
 long-plan c = search rules
 
-slice-aggregate-fill : tie.Need-slice-aggregate-fill
+slice-aggregate-fill : tie.Need-slice_bounds-fill-end
 slice-aggregate-fill c = search rules
 
-slice-aggregate-fill-2 : tie.Need-slice-aggregate-fill-2
+slice-aggregate-fill-2 : tie.Need-slice_bounds-fill-end-2
 slice-aggregate-fill-2 c = search rules
 
 fill-requires : tie.Need-fill-requires
 fill-requires c κs = search rules
 
-room-of-requires : tie.Need-room-of-requires
+room-of-requires : tie.Need-room_of-room-requires
 room-of-requires c κs = search rules
 
-slice-aggregate-first-within : tie.Need-slice-aggregate-first-within
+slice-aggregate-first-within : tie.Need-slice_bounds-first_within-end
 slice-aggregate-first-within c = search rules
 
-first-within-requires : tie.Need-first-within-requires
+first-within-requires : tie.Need-first_within-size-requires
 first-within-requires c κs = search rules
 
-slice-aggregate-plan-in : tie.Need-slice-aggregate-plan-in
+slice-aggregate-plan-in : tie.Need-slice_bounds-plan_in-end
 slice-aggregate-plan-in c = search rules
 
-plan-in-requires : tie.Need-plan-in-requires
+plan-in-requires : tie.Need-plan_in-requires
 plan-in-requires c κs =
     let r = c.before in
     let s = S (F r) in
-    ((s.pre.0, (first r).inside), ((F r).fill.ensures, reached r))
+    ((s.requires.0, (first r).inside), ((F r).fill.ensures, reached r))
 
 returns : tie.Need-returns
 returns c =
     let r = c.before.before in
     let s = S (F r) in
     let h = s.args.header in
-    found-answer h (Ls (F r)) (best_by_limit h (Ls (F r)) s.args.limit) c.plan-in.result r.first-within.result _ c.plan-in.ensures.1
-    (by-limit h s.pre.0 (Ls (F r)) (known (F r)) (long s) s.args.limit r.before.before.room_of.result r.first-within.result c.plan-in.result.plan.planes
-    s.pre.1 r.before.before.room_of.ensures (first r) c.plan-in.ensures.0 (long-plan c))
+    found-answer h (Ls (F r)) (best_by_limit h (Ls (F r)) s.args.limit) c.plan_in.result r.first_within-size.result _ c.plan_in.ensures.1
+    (by-limit h s.requires.0 (Ls (F r)) (known (F r)) (long s) s.args.limit r.before.before.room_of-room.result r.first_within-size.result c.plan_in.result.plan.planes
+    s.requires.1 r.before.before.room_of-room.ensures (first r) c.plan_in.ensures.0 (long-plan c))
 
-pub search-by-limit-spec : {M : Type 1} → statement M
-search-by-limit-spec =
+pub search_by_limit_spec : {M : Type 1} → statement M
+search_by_limit_spec =
     tie.close
     (tie.spec
     slice-aggregate-fill

@@ -6,7 +6,7 @@ use Rattle.trace_card.proofs.Answers.{filled}
 use Rattle.trace_card.proofs.answer.plan_from.Statement.{statement}
 use Rattle.trace_card.proofs.answer.plan_from.Tie as tie
 
-slice-aggregate-put : tie.Need-slice-aggregate-put
+slice-aggregate-put : tie.Need-slice_bounds-put-end
 slice-aggregate-put c = search rules
 
 put-requires : tie.Need-put-requires
@@ -17,5 +17,6 @@ returns c =
     let s = c.before.before.before.before in
     ap plan_of (c.before.put.ensures ∙ filled _ s.args.numbers.now s.requires)
 
-pub plan-from-spec : {M : Type 1} → statement M
-plan-from-spec = tie.close (tie.spec slice-aggregate-put put-requires returns)
+pub plan_from_spec : {M : Type 1} → statement M
+plan_from_spec =
+    tie.close (tie.spec slice-aggregate-put put-requires returns)

@@ -9,60 +9,60 @@ use Rattle.text.proofs.Stores.{sets-next, sets-whole}
 use Rattle.trace_card.proofs.answer.put.Statement.{statement}
 use Rattle.trace_card.proofs.answer.put.Tie as tie
 
-abbrev invariant-loop : tie.invariant-loop
+abbrev invariant-loop : tie.invariant-loop-i
 invariant-loop numbers out₀ at i₀ i-end out i = (i ≤ i-end) × (i-end ≡ length numbers) × (out ≡ sets out₀ at (take i numbers))
 
-abbrev decreases-loop : tie.decreases-loop
+abbrev decreases-loop : tie.decreases-loop-i
 decreases-loop numbers out₀ at i₀ i-end out i = i-end - i
 
-abbrev S : tie.At-loop invariant-loop decreases-loop → tie.Start invariant-loop decreases-loop
+abbrev S : tie.At-loop-i invariant-loop decreases-loop → tie.Start invariant-loop decreases-loop
 S l = l.before
 
-same : (l : tie.At-loop invariant-loop decreases-loop) → length l.loop.out ≡ length (S l).args.out.now
-same l = ap length l.loop.invariant.2 ∙ length-sets (S l).args.out.now (S l).args.at (take l.loop.i (S l).args.numbers.now)
+same : (l : tie.At-loop-i invariant-loop decreases-loop) → length l.loop-i.out ≡ length (S l).args.out.now
+same l = ap length l.loop-i.invariant.2 ∙ length-sets (S l).args.out.now (S l).args.at (take l.loop-i.i (S l).args.numbers.now)
 
-loop-holds : tie.Need-loop-init invariant-loop decreases-loop
+loop-holds : tie.Need-loop-i-init invariant-loop decreases-loop
 loop-holds c = (omega arith, refl, refl)
 
-mul-out : tie.Need-overflow-mul-out invariant-loop decreases-loop
+mul-out : tie.Need-offset_bounds-numbers-i invariant-loop decreases-loop
 mul-out c = omega arith
 
-shared-slice-read-out : tie.Need-shared-slice-read-out invariant-loop decreases-loop
+shared-slice-read-out : tie.Need-bounds-numbers-i invariant-loop decreases-loop
 shared-slice-read-out c = omega arith
 
-add-out : tie.Need-overflow-add-out invariant-loop decreases-loop
+add-out : tie.Need-overflow_add-out invariant-loop decreases-loop
 add-out c = omega arith
 
-mul-out-2 : tie.Need-overflow-mul-out-2 invariant-loop decreases-loop
+mul-out-2 : tie.Need-offset_bounds-out-at invariant-loop decreases-loop
 mul-out-2 c = omega arith
 
-slice-write-out : tie.Need-slice-write-out invariant-loop decreases-loop
+slice-write-out : tie.Need-bounds-out-at invariant-loop decreases-loop
 slice-write-out c = omega (arith, same c.before.before)
 
-add-i : tie.Need-overflow-add-i invariant-loop decreases-loop
+add-i : tie.Need-overflow_step-i invariant-loop decreases-loop
 add-i c = omega arith
 
-loop-less : tie.Need-loop-smaller invariant-loop decreases-loop
+loop-less : tie.Need-loop-i-smaller invariant-loop decreases-loop
 loop-less c = omega arith
 
-loop-again : tie.Need-loop-preserved invariant-loop decreases-loop
+loop-again : tie.Need-loop-i-preserved invariant-loop decreases-loop
 loop-again c =
     let l = c.before.before in
     let s = S l in (
       omega arith,
       refl,
-      ap (λ (o : List _). set o (s.args.at + l.loop.i) (get_or s.args.numbers.now l.loop.i 0)) l.loop.invariant.2
-          ∙ sets-next s.args.out.now s.args.at s.args.numbers.now l.loop.i 0 (omega arith),
+      ap (λ (o : List _). set o (s.args.at + l.loop-i.i) (get_or s.args.numbers.now l.loop-i.i 0)) l.loop-i.invariant.2
+          ∙ sets-next s.args.out.now s.args.at s.args.numbers.now l.loop-i.i 0 (omega arith),
     )
 
-same_length : tie.Need-same-length invariant-loop decreases-loop
+same_length : tie.Need-shape_of-out invariant-loop decreases-loop
 same_length c = same c.before
 
 returns : tie.Need-returns invariant-loop decreases-loop
 returns c =
     let l = c.before in
     let s = S l in
-    l.loop.invariant.2 ∙ sets-whole s.args.out.now s.args.at s.args.numbers.now l.loop.i (omega arith)
+    l.loop-i.invariant.2 ∙ sets-whole s.args.out.now s.args.at s.args.numbers.now l.loop-i.i (omega arith)
 
 pub put_spec : {M : Type 1} → statement M
 put_spec =

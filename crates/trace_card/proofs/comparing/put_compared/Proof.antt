@@ -4,25 +4,24 @@ use Rattle.trace_card.proofs.Told.{details-same}
 use Rattle.trace_card.proofs.comparing.put_compared.Statement.{statement}
 use Rattle.trace_card.proofs.comparing.put_compared.Tie as tie
 
-array-write-planes : tie.Need-array-write-planes
+array-write-planes : tie.Need-bounds-planes-0
 array-write-planes c = search rules
 
-details-of-requires : tie.Need-details-of-requires
+details-of-requires : tie.Need-details_of-requires
 details-of-requires c κs = search rules
 
-put-answer-requires : tie.Need-put-answer-requires
+put-answer-requires : tie.Need-put_answer-requires
 put-answer-requires c κs = search rules
 
-same_length : tie.Need-same-length
+same_length : tie.Need-shape_of-answer
 same_length c = search rules
 
 returns : tie.Need-returns
 returns c =
     let p = c.before.before in
     let d = p.before in
-    details-same d.details-of.result _ d.details-of.ensures p.put-answer.result _ _ _ _ p.put-answer.ensures.0 p.put-answer.ensures.1
+    details-same d.details_of.result _ d.details_of.ensures p.put_answer.result _ _ _ _ p.put_answer.ensures.0 p.put_answer.ensures.1
 
-pub put-compared-spec : {M : Type 1} → statement M
-put-compared-spec =
-    tie.close
-    (tie.spec array-write-planes details-of-requires put-answer-requires same_length returns)
+pub put_compared_spec : {M : Type 1} → statement M
+put_compared_spec =
+    tie.close (tie.spec array-write-planes details-of-requires put-answer-requires same_length returns)

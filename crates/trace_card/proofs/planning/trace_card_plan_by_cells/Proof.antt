@@ -8,28 +8,29 @@ use Rattle.trace_card.proofs.Told.{planned-told}
 use Rattle.trace_card.proofs.planning.trace_card_plan_by_cells.Statement.{statement}
 use Rattle.trace_card.proofs.planning.trace_card_plan_by_cells.Tie as tie
 
-returns : tie.Need-returns
+returns : tie.Need-returns-then-answer-ne-ANSWER
 unfolding cells_call
 returns c = no_answer _ _ c.before.before.before.args.answer.now (λ e. let z : ⊥ = omega arith in z)
 
-plan-by-cells-requires : tie.Need-plan-by-cells-requires
+plan-by-cells-requires : tie.Need-plan_by_cells-planned-requires
 plan-by-cells-requires c κs = search rules
 
-put-planned-requires : tie.Need-put-planned-requires
+put-planned-requires : tie.Need-put_planned-requires
 put-planned-requires c κs = omega arith
 
-same_length : tie.Need-same-length
+same_length : tie.Need-shape_of-answer
 same_length c = search rules
 
-returns-2 : tie.Need-returns-2
+returns-2 : tie.Need-returns
 unfolding cells_call
 returns-2 c =
     let p = c.before.before in
     let f = p.before.before in
     let s = f.before.before.before.before in
-    planned-told f.plan-by-cells.result p.put-planned.result _ p.put-planned.ensures.0 p.put-planned.ensures.1
-    ∙ ap planned_as f.plan-by-cells.ensures
+    planned-told f.plan_by_cells-planned.result p.put_planned.result _ p.put_planned.ensures.0 p.put_planned.ensures.1
+    ∙ ap planned_as f.plan_by_cells-planned.ensures
     ∙ with-answer _ _ s.args.answer.now (omega arith)
 
-pub trace-card-plan-by-cells-spec : {M : Type 1} → statement M
-trace-card-plan-by-cells-spec = tie.close (tie.spec returns plan-by-cells-requires put-planned-requires same_length returns-2)
+pub trace_card_plan_by_cells_spec : {M : Type 1} → statement M
+trace_card_plan_by_cells_spec =
+    tie.close (tie.spec returns plan-by-cells-requires put-planned-requires same_length returns-2)

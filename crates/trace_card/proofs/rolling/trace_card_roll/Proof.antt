@@ -8,47 +8,38 @@ use Rattle.trace_card.proofs.Lengths.{no_answer, with-answer}
 use Rattle.trace_card.proofs.rolling.trace_card_roll.Statement.{statement}
 use Rattle.trace_card.proofs.rolling.trace_card_roll.Tie as tie
 
-returns : tie.Need-returns
+returns : tie.Need-returns-then-answer-ne-ANSWER
 unfolding roll_call
 returns c = no_answer _ _ c.before.before.before.before.args.answer.now (λ e. let z : ⊥ = omega arith in z)
 
-roll-requires : tie.Need-roll-requires
+roll-requires : tie.Need-roll-reached-requires
 roll-requires c κs = search rules
 
-put-reached-requires : tie.Need-put-reached-requires
+put-reached-requires : tie.Need-put_reached-requires
 put-reached-requires c κs = omega arith
 
-same_length : tie.Need-same-length
+same_length : tie.Need-shape_of-coefficients
 same_length c = search rules
 
-same-length-2 : tie.Need-same-length-2
+same-length-2 : tie.Need-shape_of-values
 same-length-2 c = search rules
 
-same-length-3 : tie.Need-same-length-3
+same-length-3 : tie.Need-shape_of-page
 same-length-3 c = search rules
 
-same-length-4 : tie.Need-same-length-4
+same-length-4 : tie.Need-shape_of-answer
 same-length-4 c = search rules
 
-returns-2 : tie.Need-returns-2
+returns-2 : tie.Need-returns
 unfolding roll_call
 returns-2 c =
     let p = c.before.before in
     let r = p.before.before.before.before.before.before in
     let s = r.before.before.before.before.before.before.before.before in
-    rolled-told r.roll.result p.put-reached.result _ _ _ _ p.put-reached.ensures.0 p.put-reached.ensures.1
-    ∙ ap rolled_as r.roll.ensures
+    rolled-told r.roll-reached.result p.put_reached.result _ _ _ _ p.put_reached.ensures.0 p.put_reached.ensures.1
+    ∙ ap rolled_as r.roll-reached.ensures
     ∙ with-answer _ _ s.args.answer.now (omega arith)
 
-pub trace-card-roll-spec : {M : Type 1} → statement M
-trace-card-roll-spec =
-    tie.close
-    (tie.spec
-    returns
-    roll-requires
-    put-reached-requires
-    same_length
-    same-length-2
-    same-length-3
-    same-length-4
-    returns-2)
+pub trace_card_roll_spec : {M : Type 1} → statement M
+trace_card_roll_spec =
+    tie.close (tie.spec returns roll-requires put-reached-requires same_length same-length-2 same-length-3 same-length-4 returns-2)

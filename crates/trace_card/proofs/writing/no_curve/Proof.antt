@@ -13,11 +13,12 @@ bad a = bad-sizes a.before.args.rows a.before.args.cols ∙ ap not (sym a.sized.
 sized-requires : tie.Need-sized-requires
 sized-requires c κs = search rules
 
-returns : tie.Need-returns
-returns c = rw (bad c.before, c.if1.true)
+returns : tie.Need-returns-then-sized
+returns c = rw (bad c.before, c.if-sized.true)
 
-returns-2 : tie.Need-returns-2
-returns-2 c = rw (bad c.before, c.if1.false)
+returns-2 : tie.Need-returns
+returns-2 c = rw (bad c.before, c.if-sized.false)
 
-pub no-curve-spec : {M : Type 1} → statement M
-no-curve-spec = tie.close (tie.spec sized-requires returns returns-2)
+pub no_curve_spec : {M : Type 1} → statement M
+no_curve_spec =
+    tie.close (tie.spec sized-requires returns returns-2)
