@@ -98,11 +98,10 @@ fn the_parts_are_summed() {
     assert_eq!(said, summed);
 }
 
-/// "Rattle·sheet.specs.Limits" and "Rattle·sheet·specs.specs.Limits" both name a file of `sheet`.
+/// "Rattle.sheet.specs.Limits" names a file of `sheet`.
 fn imported(line: &str) -> Option<String> {
-    let (_, path) = line.split_once("use Rattle·")?;
+    let (_, path) = line.split_once("use Rattle.")?;
     let (name, rest) = path.split_once(".specs.")?;
-    let name = name.strip_suffix("·specs").unwrap_or(name);
     let file = rest.split(['.', ' ', ';']).next()?;
     Some(format!("crates/{name}/specs/{file}.antt"))
 }

@@ -31,7 +31,7 @@ use Rattle.header.specs.Plan.{loads, missing, first_over}
 use Rattle.header.specs.Losses.{told}
 use Rattle.header.specs.Opening.{Opening, opening, well_formed}
 use Rattle.header.specs.Opening as O
-use Rattle.order.specs.CardOrder.{slots, whole, whole_of}
+use Rattle.order.specs.CardOrder.{slots, whole_of}
 use Rattle.order.specs.Workings.{whole_in}
 use Rattle.figure.specs.Figure.{figure_of}
 use Rattle.figure.specs.Workings.{bound_of}

@@ -1,4 +1,6 @@
 // The card: writing a sheet, reading it with a plan, showing what is there, and refining a reading by a plane.
+#![tactic(auto)]
+
 mod reading;
 mod refining;
 mod writing;

@@ -1,4 +1,6 @@
 // The planes in a card's bytes, loaded into coefficients: those of a plan, all that are whole, or one more.
+#![tactic(auto)]
+
 mod adding;
 mod loading;
 mod refining;

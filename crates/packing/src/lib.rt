@@ -1,4 +1,6 @@
 // The card of coefficients: their words in layer order, the losses that these measure, the words turned into rows, and the planes of the rows behind the header's text.
+#![tactic(auto)]
+
 mod measuring;
 mod putting;
 mod rows;

@@ -1,4 +1,6 @@
 // Looking before refining: the values that one plane more would give, in a slice of their own.
+#![tactic(auto)]
+
 ghost use Rattle.std.specs.Prelude.{◌≡◌, ◌≤◌, length, take};
 ghost use Rattle.header.specs.Refusals.{details_of};
 ghost use Rattle.card.specs.Reading as R;

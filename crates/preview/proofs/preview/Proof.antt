@@ -3,61 +3,48 @@ use mathlib.Core.Logic.{⊎_elim}
 use mathlib.Core.Path.{ap, ◌∙◌}
 use native.Mathlib.Omega.{arith}
 use borrow.Author.Rules.{rules}
-use borrow.Author.Tests.{not-true, not-false, eqb-true, eqb-false}
 use Rattle.card.specs.declared.Reached.{Reached}
 use Rattle.preview.specs.Previewing.{not_previewed, seen, as_previewing}
 use Rattle.preview.proofs.PreviewCall.{copy_seen, lengths-refused}
 use Rattle.preview.proofs.preview.Statement.{statement}
 use Rattle.preview.proofs.preview.Tie as tie
 
-length-refusal-requires : tie.Need-length-refusal-requires
+length-refusal-requires : tie.Need-length_refusal-requires
 length-refusal-requires c κs = search rules
 
 refused-requires : tie.Need-refused-requires
 refused-requires c κs = search rules
 
-returns : tie.Need-returns
+returns : tie.Need-returns-then-n-gt-MOST_POINTS
 returns c =
-    let j = c.before.before in
-    let s = j.before.before in
-    let qs = s.args.coefficients.now in
-    let vs = s.args.values.now in
-    let ns = s.args.next.now in
+    let qs = c.args.coefficients.now in
+    let vs = c.args.values.now in
+    let ns = c.args.next.now in
     ap (λ (r : Reached). as_previewing r qs vs ns) c.refused.ensures
-    ∙ ap (not_previewed qs vs ns) c.before.length-refusal.ensures
-    ∙ lengths-refused qs vs ns s.args.bytes.now s.args.plan s.args.layer (λ few same.
+    ∙ ap (not_previewed qs vs ns) c.length_refusal.ensures
+    ∙ lengths-refused qs vs ns c.args.bytes.now c.args.plan c.args.layer (λ few same.
     ⊎_elim
-    (λ w. let no : ⊥ = omega (arith, w.taken) in no)
-    (λ w. eqb-false _ _ (not-true _ w.1.taken) same)
-    j.if1.branch)
+    (λ w. let no : ⊥ = omega (arith, w) in no)
+    (λ w. w.1 same)
+    c.then-n-gt-MOST_POINTS.either)
 
-slice-aggregate-refine-copy : tie.Need-slice-aggregate-refine-copy
-slice-aggregate-refine-copy c = search rules
+refine-copy-bounds : tie.Need-slice_bounds-refine_copy-end
+refine-copy-bounds c = search rules
 
-refine-copy-requires : tie.Need-refine-copy-requires
+refine-copy-requires : tie.Need-refine_copy-requires
 refine-copy-requires c κs = search rules
 
-same_length : tie.Need-same-length
+same_length : tie.Need-shape_of-next
 same_length c = search rules
 
-returns-2 : tie.Need-returns-2
+returns-2 : tie.Need-returns
 returns-2 c =
-    let r = c.before.before in
-    let s = r.before.before.before.before.before.before in
-    let qs = s.args.coefficients.now in
-    let vs = s.args.values.now in
-    let ns = s.args.next.now in
-    ap (seen qs vs ns) r.refine-copy.ensures
-    ∙ copy_seen qs vs ns s.args.bytes.now s.args.plan s.args.layer (eqb-true _ _ (not-false _ r.before.before.before.if2.false))
+    let qs = c.args.coefficients.now in
+    let vs = c.args.values.now in
+    let ns = c.args.next.now in
+    ap (seen qs vs ns) c.refine_copy.ensures
+    ∙ copy_seen qs vs ns c.args.bytes.now c.args.plan c.args.layer c.if-values-n.false
 
-pub preview-spec : {M : Type 1} → statement M
-preview-spec =
-    tie.close
-    (tie.spec
-    length-refusal-requires
-    refused-requires
-    returns
-    slice-aggregate-refine-copy
-    refine-copy-requires
-    same_length
-    returns-2)
+pub preview_spec : {M : Type 1} → statement M
+preview_spec =
+    tie.close (tie.spec length-refusal-requires refused-requires returns refine-copy-bounds refine-copy-requires same_length returns-2)

@@ -11,48 +11,39 @@ use Rattle.card.proofs.ReadCall.{stops, opened-yes, header-here}
 use Rattle.card.proofs.reading.examine.Statement.{statement}
 use Rattle.card.proofs.reading.examine.Tie as tie
 
-abbrev S : tie.After-open → tie.Start
-S c = c.before.before
-
-abbrev L : tie.After-enum-told → tie.After-open
-L c = c.before.before
-
 abbrev why : Reading → Details
 why r = r.refused
 
-open-requires : tie.Need-open-requires
+open-requires : tie.Need-open-opened-requires
 open-requires c κs = search rules
 
-enum_told : tie.Need-enum-told
+enum_told : tie.Need-enum_told-1
 enum_told c = search rules
 
-examine-opened-requires : tie.Need-examine-opened-requires
+examine-opened-requires : tie.Need-examine_opened-requires
 examine-opened-requires c κs =
-    let t = c.before in
-    let o = L t in
-    let bs = (S o).args.bytes.now in
-    (header-right bs o.«open».result _ o.«open».ensures.0 t.enum_told.given.1, header-here bs o.«open».result o.«open».ensures.0 t.enum_told.given.1)
+    let o = c.open-opened in
+    let bs = c.args.bytes.now in
+    (header-right bs o.result _ o.ensures.0 c.in-Accepted.is, header-here bs o.result o.ensures.0 c.in-Accepted.is)
 
-returns : tie.Need-returns
+returns : tie.Need-returns-in-Accepted
 unfolding showing
 returns c =
-    let t = c.before.before in
-    let o = L t in
-    let s = S o in
-    c.examine-opened.ensures (told (opening s.args.bytes.now).losses)
+    let o = c.open-opened in
+    let a = c.args in
+    c.examine_opened.ensures (told (opening a.bytes.now).losses)
     ∙ ap why
-    (opened-yes s.args.bytes.now o.«open».result o.«open».ensures.0 t.enum_told.given.1 s.args.coefficients.now s.args.values.now
-    (λ h ls long. read_opened s.args.coefficients.now s.args.values.now s.args.bytes.now h ls long (whole_of s.args.bytes.now h long)) _ refl)
+    (opened-yes a.bytes.now o.result o.ensures.0 c.in-Accepted.is a.coefficients.now a.values.now
+    (λ h ls long. read_opened a.coefficients.now a.values.now a.bytes.now h ls long (whole_of a.bytes.now h long)) _ refl)
 
-returns-2 : tie.Need-returns-2
+returns-2 : tie.Need-returns-in_default
 unfolding showing
 returns-2 c =
-    let o = c.before in
-    let s = S o in
+    let o = c.open-opened in
     ap why
-    (stops s.args.coefficients.now s.args.values.now o.«open».result.refusal _ (ap (λ (x : Opening). x.refused) o.«open».ensures.0) _
-    (refusing o.«open».result.refusal c.match.keys2))
+    (stops c.args.coefficients.now c.args.values.now o.result.refusal _ (ap (λ (x : Opening). x.refused) o.ensures.0) _
+    (refusing o.result.refusal c.in_default.in_default-own.keys2))
 
-pub examine-spec : {M : Type 1} → statement M
-examine-spec =
+pub examine_spec : {M : Type 1} → statement M
+examine_spec =
     tie.close (tie.spec open-requires enum_told examine-opened-requires returns returns-2)

@@ -13,54 +13,42 @@ use Rattle.card.proofs.ReadCall.{finished-yes, stops}
 use Rattle.card.proofs.reading.finish.Statement.{statement}
 use Rattle.card.proofs.reading.finish.Tie as tie
 
-enum_told : tie.Need-enum-told
+enum_told : tie.Need-enum_told-1
 enum_told c = search rules
 
-middles-requires : tie.Need-middles-requires
+middles-requires : tie.Need-middles-more-requires
 middles-requires c κs = search rules
 
 rebuild-requires : tie.Need-rebuild-requires
 rebuild-requires c κs = search rules
 
-error-bound-requires : tie.Need-error-bound-requires
+error-bound-requires : tie.Need-error_bound-requires
 error-bound-requires c κs = search rules
 
 refused-requires : tie.Need-refused-requires
 refused-requires c κs = search rules
 
-same_length : tie.Need-same-length
+same_length : tie.Need-shape_of-values
 same_length c = search rules
 
-returns : tie.Need-returns
+returns : tie.Need-returns-in-Accepted
 returns c =
-    let b = c.before.before in
-    let t = b.before.before.before.before.before in
-    let s = t.before.before.before in
-    let h = s.args.header in
-    let qs = s.args.coefficients.now in
-    let vs = s.args.values.now in
-    finished-yes s.args.refusal t.enum_told.given.1 h s.args.losses.now s.args.plan qs vs _ _
-    (b.rebuild.ensures.1 ∙ ap (λ (more : List ℤ). rebuilding h.shape h.curve h.step more qs vs) b.before.before.before.middles.ensures)
-    (ap (λ (x : Bounding). x.figure) c.error-bound.ensures)
+    let a = c.args in
+    let h = a.header in
+    let qs = a.coefficients.now in
+    let vs = a.values.now in
+    finished-yes a.refusal c.in-Accepted.is h a.losses.now a.plan qs vs _ _
+    (c.rebuild.ensures.1 ∙ ap (λ (more : List ℤ). rebuilding h.shape h.curve h.step more qs vs) c.middles-more.ensures)
+    (ap (λ (x : Bounding). x.figure) c.error_bound.ensures)
 
-returns-2 : tie.Need-returns-2
+returns-2 : tie.Need-returns-in_default
 unfolding finished
 returns-2 c =
-    let s = c.before.before.before in
-    let qs = s.args.coefficients.now in
-    let vs = s.args.values.now in
+    let qs = c.args.coefficients.now in
+    let vs = c.args.values.now in
     ap (λ (r : Reached). as_reading r qs vs) c.refused.ensures
-    ∙ stops qs vs s.args.refusal _ refl _ (refusing s.args.refusal c.before.match.keys2)
+    ∙ stops qs vs c.args.refusal _ refl _ (refusing c.args.refusal c.in_default.in_default-own.keys2)
 
 pub finish_spec : {M : Type 1} → statement M
 finish_spec =
-    tie.close
-    (tie.spec
-    enum_told
-    middles-requires
-    rebuild-requires
-    error-bound-requires
-    refused-requires
-    same_length
-    returns
-    returns-2)
+    tie.close (tie.spec enum_told middles-requires rebuild-requires error-bound-requires refused-requires same_length returns returns-2)

@@ -11,75 +11,66 @@ use Rattle.card.proofs.ReadCall.{stops, opened-yes, header-here}
 use Rattle.card.proofs.refining.refine.Statement.{statement}
 use Rattle.card.proofs.refining.refine.Tie as tie
 
-abbrev S : tie.After-open-with-losses → tie.Start
-S c = c.before.before.before
+opened-bounds : tie.Need-slice_bounds-open_with_losses-end
+opened-bounds c = search rules
 
-abbrev L : tie.After-enum-told → tie.After-open-with-losses
-L c = c.before.before.before
+opened-requires : tie.Need-open_with_losses-opened-requires
+opened-requires c κs = search rules
 
-slice-aggregate-open-with-losses : tie.Need-slice-aggregate-open-with-losses
-slice-aggregate-open-with-losses c = search rules
-
-open-with-losses-requires : tie.Need-open-with-losses-requires
-open-with-losses-requires c κs = search rules
-
-enum_told : tie.Need-enum-told
+enum_told : tie.Need-enum_told-1
 enum_told c = search rules
 
-array-share-prefix-table : tie.Need-array-share-prefix-table
-array-share-prefix-table c =
-    let o = L c.before in
-    told-room (S o).args.bytes.now _ o.open-with-losses.ensures.1.1 _ o.open-with-losses.ensures.1.0
+table-bounds : tie.Need-slice_bounds-table-end
+table-bounds c =
+    let o = c.open_with_losses-opened.ensures in
+    told-room c.args.bytes.now _ o.1.1 _ o.1.0
 
-slice-aggregate-refine-opened : tie.Need-slice-aggregate-refine-opened
-slice-aggregate-refine-opened c = sym (length-take-le _ _ (array-share-prefix-table c.before))
+refine-opened-bounds : tie.Need-slice_bounds-refine_opened-end
+refine-opened-bounds c = sym (length-take-le _ _ (table-bounds c.before))
 
-refine-opened-requires : tie.Need-refine-opened-requires
+refine-opened-requires : tie.Need-refine_opened-requires
 refine-opened-requires c κs =
-    let t = c.before.before.before.before in
-    let o = L t in
-    let bs = (S o).args.bytes.now in
-    (header-right bs o.open-with-losses.result _ o.open-with-losses.ensures.0 t.enum_told.given.1, header-here bs o.open-with-losses.result o.open-with-losses.ensures.0 t.enum_told.given.1)
+    let o = c.open_with_losses-opened in
+    let bs = c.args.bytes.now in
+    (header-right bs o.result _ o.ensures.0 c.in-Accepted.is, header-here bs o.result o.ensures.0 c.in-Accepted.is)
 
 refused-requires : tie.Need-refused-requires
 refused-requires c κs = search rules
 
-same_length : tie.Need-same-length
+same_length : tie.Need-shape_of-coefficients
 same_length c = search rules
 
-same-length-2 : tie.Need-same-length-2
+same-length-2 : tie.Need-shape_of-values
 same-length-2 c = search rules
 
-returns : tie.Need-returns
+returns : tie.Need-returns-in-Accepted
 unfolding refining
 returns c =
-    let r = c.before.before in
-    let t = r.before.before.before.before.before in
-    let o = L t in
-    let s = S o in
-    r.refine-opened.ensures
-    ∙ opened-yes s.args.bytes.now o.open-with-losses.result o.open-with-losses.ensures.0 t.enum_told.given.1 s.args.coefficients.now s.args.values.now
-    (λ h ls long. refine_opened s.args.coefficients.now s.args.values.now s.args.bytes.now h ls long s.args.plan s.args.layer)
-    _ (told-front s.args.bytes.now _ o.open-with-losses.ensures.1.1 _ o.open-with-losses.ensures.1.0)
+    let o = c.open_with_losses-opened in
+    let a = c.args in
+    c.refine_opened.ensures
+    ∙ opened-yes a.bytes.now o.result o.ensures.0 c.in-Accepted.is a.coefficients.now a.values.now
+    (λ h ls long. refine_opened a.coefficients.now a.values.now a.bytes.now h ls long a.plan a.layer)
+    _ (told-front a.bytes.now _ o.ensures.1.1 _ o.ensures.1.0)
 
-returns-2 : tie.Need-returns-2
+returns-2 : tie.Need-returns-in_default
 unfolding refining
 returns-2 c =
-    let o = c.before.before.before in
-    let s = S o in
-    ap (λ (r : Reached). as_reading r s.args.coefficients.now s.args.values.now) c.refused.ensures
-    ∙ stops s.args.coefficients.now s.args.values.now o.open-with-losses.result.refusal _ (ap (λ (x : Opening). x.refused) o.open-with-losses.ensures.0) _
-    (refusing o.open-with-losses.result.refusal c.before.match.keys2)
+    let o = c.open_with_losses-opened in
+    let a = c.args in
+    ap (λ (r : Reached). as_reading r a.coefficients.now a.values.now) c.refused.ensures
+    ∙ stops a.coefficients.now a.values.now o.result.refusal _ (ap (λ (x : Opening). x.refused) o.ensures.0) _
+    (refusing o.result.refusal c.in_default.in_default-own.keys2)
 
-pub refine-spec : {M : Type 1} → statement M
-refine-spec =
+pub refine_spec : {M : Type 1} → statement M
+refine_spec =
     tie.close
     (tie.spec
-    slice-aggregate-open-with-losses
-    open-with-losses-requires
+    opened-bounds
+    opened-requires
     enum_told
-    array-share-prefix-table
-    slice-aggregate-refine-opened
+    table-bounds
+    refine-opened-bounds
     refine-opened-requires
     refused-requires
     same_length

@@ -5,11 +5,9 @@ use mathlib.Core.Bool.{true, false, not}
 use mathlib.Core.List.{List}
 use Prim.Native.Nat.{ℕ, ◌≤◌}
 use native.Mathlib.Omega.{arith}
-use lib.Dec.{ltb}
 use lib.IntN.{ℤ}
 use lib.ListN.{length}
 use borrow.Author.Rules.{rules}
-use borrow.Author.Tests.{not-true, not-false, eqb-true, eqb-false, ltb-true, ltb-false}
 use Rattle.sheet.specs.declared.Shape.{Shape}
 use Rattle.sheet.specs.Limits.{levels_most, step_most}
 use Rattle.sheet.specs.Sheet.{sized, accepted, sheet_of, points}
@@ -38,67 +36,67 @@ abbrev Out : tie.Start → List ℕ
 Out a = a.args.output.now
 
 -- what the tests leave
-abbrev A1 : tie.Else1 → tie.Start
+abbrev A1 : tie.Else-not-sized → tie.Start
 A1 d = d.before.before.before
 
-good-size : (d : tie.Else1) → sized 1 (A1 d).args.rows (A1 d).args.cols ≡ true
-good-size d = sym d.before.sized.ensures ∙ not-false _ d.if1.false
+good-size : (d : tie.Else-not-sized) → sized 1 (A1 d).args.rows (A1 d).args.cols ≡ true
+good-size d = sym d.before.sized.ensures ∙ d.if-not-sized.false
 
-sizes : (d : tie.Else1) → bad_sizes (A1 d).args.rows (A1 d).args.cols ≡ false
+sizes : (d : tie.Else-not-sized) → bad_sizes (A1 d).args.rows (A1 d).args.cols ≡ false
 sizes d = bad-sizes (A1 d).args.rows (A1 d).args.cols ∙ ap not (good-size d)
 
-abbrev A3 : tie.Else3 → tie.Start
+abbrev A3 : tie.Else-step-gt-MOST_STEP → tie.Start
 A3 d = A1 d.before.before
 
-levels-few : (d : tie.Else3) → (A3 d).args.levels ≤ levels_most
-levels-few d = omega (arith, d.before.if2.false)
+levels-few : (d : tie.Else-step-gt-MOST_STEP) → (A3 d).args.levels ≤ levels_most
+levels-few d = omega (arith, d.before.if-levels-gt-MOST_LEVELS.false)
 
-step-few : (d : tie.Else3) → (A3 d).args.step ≤ step_most
-step-few d = omega (arith, ltb-false, d.if3.false)
+step-few : (d : tie.Else-step-gt-MOST_STEP) → (A3 d).args.step ≤ step_most
+step-few d = omega (arith, d.if-step-gt-MOST_STEP.false)
 
 -- the shape is that of a sheet by itself, is accepted, and has so many points
-shaped : (d : tie.Else3) → accepted (Sh (A3 d)) ≡ true
+shaped : (d : tie.Else-step-gt-MOST_STEP) → accepted (Sh (A3 d)) ≡ true
 shaped d =
     let a = A3 d in
     W.shape-accepted (Xs a) (Sh a) a.args.curve a.args.step (Qs a) (Vs a) (Out a) (sizes d.before.before) (levels-few d) (step-few d) refl
 
-abbrev P : tie.After-points → tie.Else3
+abbrev P : tie.After-points-points → tie.Else-step-gt-MOST_STEP
 P p = p.before.before
 
-sheet : (p : tie.After-points) → p.before.sheet-of.result ≡ Sh (A3 (P p))
-sheet p = p.before.sheet-of.ensures
+sheet : (p : tie.After-points-points) → p.before.sheet_of-shape.result ≡ Sh (A3 (P p))
+sheet p = p.before.sheet_of-shape.ensures
 
-long : (p : tie.After-points) → p.points.result ≡ points (Sh (A3 (P p)))
-long p = p.points.ensures ∙ ap points_in (sheet p) ∙ points-in (Sh (A3 (P p))) (shaped (P p))
+long : (p : tie.After-points-points) → p.points-points.result ≡ points (Sh (A3 (P p)))
+long p = p.points-points.ensures ∙ ap points_in (sheet p) ∙ points-in (Sh (A3 (P p))) (shaped (P p))
 
-abbrev P5 : tie.Else5 → tie.After-points
+abbrev P5 : tie.Else-coefficients-points → tie.After-points-points
 P5 d = d.before.before
 
-abbrev A5 : tie.Else5 → tie.Start
+abbrev A5 : tie.Else-coefficients-points → tie.Start
 A5 d = A3 (P (P5 d))
 
-samples-long : (d : tie.Else5) → length (Xs (A5 d)) ≡ points (Sh (A5 d))
-samples-long d = d.before.if4.false ∙ long (P5 d)
+samples-long : (d : tie.Else-coefficients-points) → length (Xs (A5 d)) ≡ points (Sh (A5 d))
+samples-long d = d.before.if-samples-points.false ∙ long (P5 d)
 
-coefficients-long : (d : tie.Else5) → length (Qs (A5 d)) ≡ points (Sh (A5 d))
-coefficients-long d = eqb-true _ _ (not-false _ d.if5.false) ∙ long (P5 d)
+coefficients-long : (d : tie.Else-coefficients-points) → length (Qs (A5 d)) ≡ points (Sh (A5 d))
+coefficients-long d = d.if-coefficients-points.false ∙ long (P5 d)
 
-abbrev P7 : tie.Else7 → tie.After-points
+abbrev P7 : tie.Else-output-lt-LEAST_OUTPUT → tie.After-points-points
 P7 d = P5 d.before.before
 
-abbrev A7 : tie.Else7 → tie.Start
+abbrev A7 : tie.Else-output-lt-LEAST_OUTPUT → tie.Start
 A7 d = A5 d.before.before
 
-values-long : (d : tie.Else7) → length (Vs (A7 d)) ≡ points (Sh (A7 d))
-values-long d = d.before.if6.false ∙ long (P7 d)
+values-long : (d : tie.Else-output-lt-LEAST_OUTPUT) → length (Vs (A7 d)) ≡ points (Sh (A7 d))
+values-long d = d.before.if-values-points.false ∙ long (P7 d)
 
-output-long : (d : tie.Else7) → output_least ≤ length (Out (A7 d))
-output-long d = ltb-false _ _ (ap (ltb (length (Out (A7 d)))) (omega arith) ∙ d.if7.false)
+output-long : (d : tie.Else-output-lt-LEAST_OUTPUT) → output_least ≤ length (Out (A7 d))
+output-long d = omega (arith, d.if-output-lt-LEAST_OUTPUT.false)
 
-abbrev D : tie.After-quantize → tie.Else7
+abbrev D : tie.After-quantize → tie.Else-output-lt-LEAST_OUTPUT
 D q = q.before.before.before
 
-abbrev T : tie.After-quantize → tie.Else3
+abbrev T : tie.After-quantize → tie.Else-step-gt-MOST_STEP
 T q = P (P7 (D q))
 
 abbrev A : tie.After-quantize → tie.Start
@@ -110,121 +108,120 @@ sized-requires c κs = search rules
 refused-requires : tie.Need-refused-requires
 refused-requires c κs = search rules
 
-returns : tie.Need-returns
+returns : tie.Need-returns-then-not-sized
 returns c = let b = c.before.before in
     let a = b.before.before in
-    W.bad-size (Xs a) (Sh a) a.args.curve a.args.step (Qs a) (Vs a) (Out a) (bad-sizes a.args.rows a.args.cols ∙ ap not (sym b.sized.ensures) ∙ c.before.if1.true) c.refused.result c.refused.ensures.0 c.refused.ensures.1
+    W.bad-size (Xs a) (Sh a) a.args.curve a.args.step (Qs a) (Vs a) (Out a) (bad-sizes a.args.rows a.args.cols ∙ ap not (sym b.sized.ensures ∙ c.before.if-not-sized.true)) c.refused.result c.refused.ensures.0 c.refused.ensures.1
 
-refused-requires-2 : tie.Need-refused-requires-2
+refused-requires-2 : tie.Need-refused-requires-then-levels-gt-MOST_LEVELS
 refused-requires-2 c κs = search rules
 
-returns-2 : tie.Need-returns-2
+returns-2 : tie.Need-returns-then-levels-gt-MOST_LEVELS
 returns-2 c = let j = c.before in
     let d = j.before in
     let a = A1 d in
     W.bad-settings (Xs a) (Sh a) a.args.curve a.args.step (Qs a) (Vs a) (Out a) (sizes d)
-    (⊎_elim (λ w. W.many-levels (Xs a) (Sh a) a.args.curve a.args.step (Qs a) (Vs a) (Out a) (sizes d) (omega (arith, w.taken))) (λ w. W.wide_step (Xs a) (Sh a) a.args.curve a.args.step (Qs a) (Vs a) (Out a) (sizes d) (omega (arith, ltb-true, w.1.taken))) j.if2.branch)
-    c.refused2.result c.refused2.ensures.0 c.refused2.ensures.1
+    (⊎_elim (λ w. W.many-levels (Xs a) (Sh a) a.args.curve a.args.step (Qs a) (Vs a) (Out a) (sizes d) (omega (arith, w))) (λ w. W.wide_step (Xs a) (Sh a) a.args.curve a.args.step (Qs a) (Vs a) (Out a) (sizes d) (omega (arith, w.1))) j.then-levels-gt-MOST_LEVELS.either)
+    c.refused-then-levels-gt-MOST_LEVELS.result c.refused-then-levels-gt-MOST_LEVELS.ensures.0 c.refused-then-levels-gt-MOST_LEVELS.ensures.1
 
-sheet-of-requires : tie.Need-sheet-of-requires
+sheet-of-requires : tie.Need-sheet_of-shape-requires
 sheet-of-requires c κs = search rules
 
-points-requires : tie.Need-points-requires
+points-requires : tie.Need-points-points-requires
 points-requires c κs = search rules
 
-refused-requires-3 : tie.Need-refused-requires-3
+refused-requires-3 : tie.Need-refused-requires-then-samples-points
 refused-requires-3 c κs = search rules
 
-returns-3 : tie.Need-returns-3
+returns-3 : tie.Need-returns-then-samples-points
 returns-3 c = let j = c.before in
     let p = j.before in
     let d = P p in
     let a = A3 d in
     let n = sizes d.before.before in
     W.bad-lengths (Xs a) (Sh a) a.args.curve a.args.step (Qs a) (Vs a) (Out a) n (levels-few d) (step-few d)
-    (⊎_elim (λ w. W.short-samples (Xs a) (Sh a) a.args.curve a.args.step (Qs a) (Vs a) (Out a) n (levels-few d) (step-few d) (λ e. w.taken (e ∙ sym (long p)))) (λ w. W.short-coefficients (Xs a) (Sh a) a.args.curve a.args.step (Qs a) (Vs a) (Out a) n (levels-few d) (step-few d) (λ e. eqb-false _ _ (not-true _ w.1.taken) (e ∙ sym (long p)))) j.if4.branch)
-    c.refused3.result c.refused3.ensures.0 c.refused3.ensures.1
+    (⊎_elim (λ w. W.short-samples (Xs a) (Sh a) a.args.curve a.args.step (Qs a) (Vs a) (Out a) n (levels-few d) (step-few d) (λ e. w (e ∙ sym (long p)))) (λ w. W.short-coefficients (Xs a) (Sh a) a.args.curve a.args.step (Qs a) (Vs a) (Out a) n (levels-few d) (step-few d) (λ e. w.1 (e ∙ sym (long p)))) j.then-samples-points.either)
+    c.refused-then-samples-points.result c.refused-then-samples-points.ensures.0 c.refused-then-samples-points.ensures.1
 
-refused-requires-4 : tie.Need-refused-requires-4
+refused-requires-4 : tie.Need-refused-requires-then-values-points
 refused-requires-4 c κs = search rules
 
-returns-4 : tie.Need-returns-4
+returns-4 : tie.Need-returns-then-values-points
 returns-4 c = let j = c.before in
     let p = P5 j.before in
     let d = P p in
     let a = A3 d in
     let n = sizes d.before.before in
     W.bad-lengths (Xs a) (Sh a) a.args.curve a.args.step (Qs a) (Vs a) (Out a) n (levels-few d) (step-few d)
-    (⊎_elim (λ w. W.short-values (Xs a) (Sh a) a.args.curve a.args.step (Qs a) (Vs a) (Out a) n (levels-few d) (step-few d) (λ e. w.taken (e ∙ sym (long p)))) (λ w. W.short-output (Xs a) (Sh a) a.args.curve a.args.step (Qs a) (Vs a) (Out a) n (levels-few d) (step-few d) (ltb-true _ _ (ap (ltb (length (Out a))) (omega arith) ∙ w.1.taken))) j.if6.branch)
-    c.refused4.result c.refused4.ensures.0 c.refused4.ensures.1
+    (⊎_elim (λ w. W.short-values (Xs a) (Sh a) a.args.curve a.args.step (Qs a) (Vs a) (Out a) n (levels-few d) (step-few d) (λ e. w (e ∙ sym (long p)))) (λ w. W.short-output (Xs a) (Sh a) a.args.curve a.args.step (Qs a) (Vs a) (Out a) n (levels-few d) (step-few d) (omega (arith, w.1))) j.then-values-points.either)
+    c.refused-then-values-points.result c.refused-then-values-points.ensures.0 c.refused-then-values-points.ensures.1
 
 quantize-requires : tie.Need-quantize-requires
 quantize-requires c κs = search rules
 
-enum_told : tie.Need-enum-told
+enum_told : tie.Need-enum_told-1
 enum_told c = search rules
 
-refused-requires-5 : tie.Need-refused-requires-5
+refused-requires-5 : tie.Need-refused-requires-in-Refused
 refused-requires-5 c κs = search rules
 
-enum-known-row : tie.Need-enum-known-row
+enum-known-row : tie.Need-enum_known-row
 enum-known-row c = search rules
 
-refused-requires-6 : tie.Need-refused-requires-6
+refused-requires-6 : tie.Need-refused-requires-in-OutOfRange
 refused-requires-6 c κs = search rules
 
-enum-told-2 : tie.Need-enum-told-2
+enum-told-2 : tie.Need-enum_told-in-Done
 enum-told-2 c = search rules
 
-write-card-requires : tie.Need-write-card-requires
+write-card-requires : tie.Need-write_card-length-requires
 write-card-requires c κs = search rules
 
-same_length : tie.Need-same-length
+same_length : tie.Need-shape_of-coefficients-in-Refused
 same_length c = search rules
 
-same-length-2 : tie.Need-same-length-2
+same-length-2 : tie.Need-shape_of-values-in-Refused
 same-length-2 c = search rules
 
-returns-5 : tie.Need-returns-5
-returns-5 c = let t = c.before in
-    let q = t.before.before.before.before in
+returns-5 : tie.Need-returns-in-Refused
+returns-5 c =
+    let q = c.before.before.before.before in
     let d = D q in
     let a = A q in
     let made = rw (sheet (P7 (D q))) at q.quantize.ensures in
-    absurd (W.not-refused (Xs a) (Sh a) a.args.curve a.args.step (Qs a) (Vs a) (Out a) (sizes (T q).before.before) (levels-few (T q)) (step-few (T q)) (shaped (T q)) (samples-long d.before.before) (coefficients-long d.before.before) (values-long d) (output-long d) (sym t.enum_told.given.1 ∙ made.0))
+    absurd (W.not-refused (Xs a) (Sh a) a.args.curve a.args.step (Qs a) (Vs a) (Out a) (sizes (T q).before.before) (levels-few (T q)) (step-few (T q)) (shaped (T q)) (samples-long d.before.before) (coefficients-long d.before.before) (values-long d) (output-long d) (sym c.in-Refused.is ∙ made.0))
 
-same-length-3 : tie.Need-same-length-3
+same-length-3 : tie.Need-shape_of-coefficients-in-OutOfRange
 same-length-3 c = search rules
 
-same-length-4 : tie.Need-same-length-4
+same-length-4 : tie.Need-shape_of-values-in-OutOfRange
 same-length-4 c = search rules
 
-returns-6 : tie.Need-returns-6
-returns-6 c = let r = c.before.before in
-    let q = r.before.before.before.before in
+returns-6 : tie.Need-returns-in-OutOfRange
+returns-6 c =
+    let q = c.before.before.before.before in
     let d = D q in
     let a = A q in
     let made = rw (sheet (P7 (D q))) at q.quantize.ensures in
-    W.out_at (Xs a) (Sh a) a.args.curve a.args.step (Qs a) (Vs a) (Out a) (sizes (T q).before.before) (levels-few (T q)) (step-few (T q)) (shaped (T q)) (samples-long d.before.before) (coefficients-long d.before.before) (values-long d) (output-long d) _ _ _ _ c.refused6.result (sym r.row.given.1 ∙ made.0) made.1 made.2 c.refused6.ensures.0 c.refused6.ensures.1
+    W.out_at (Xs a) (Sh a) a.args.curve a.args.step (Qs a) (Vs a) (Out a) (sizes (T q).before.before) (levels-few (T q)) (step-few (T q)) (shaped (T q)) (samples-long d.before.before) (coefficients-long d.before.before) (values-long d) (output-long d) _ _ _ _ c.refused-in-OutOfRange.result (sym c.in-OutOfRange.is ∙ made.0) made.1 made.2 c.refused-in-OutOfRange.ensures.0 c.refused-in-OutOfRange.ensures.1
 
-same-length-5 : tie.Need-same-length-5
+same-length-5 : tie.Need-shape_of-coefficients-in-Done
 same-length-5 c = search rules
 
-same-length-6 : tie.Need-same-length-6
+same-length-6 : tie.Need-shape_of-values-in-Done
 same-length-6 c = search rules
 
-same-length-7 : tie.Need-same-length-7
+same-length-7 : tie.Need-shape_of-output
 same-length-7 c = search rules
 
-returns-7 : tie.Need-returns-7
-returns-7 c = let w = c.before.before in
-    let t = w.before.before.before in
-    let q = t.before.before.before.before in
+returns-7 : tie.Need-returns-in-Done
+returns-7 c =
+    let q = c.before.before.before.before.before.before.before in
     let d = D q in
     let a = A q in
     let made = rw (sheet (P7 (D q))) at q.quantize.ensures in
-    let card = rw (sheet (P7 (D q))) at w.write-card.ensures in
-    W.card-told (Xs a) (Sh a) a.args.curve a.args.step (Qs a) (Vs a) (Out a) (sizes (T q).before.before) (levels-few (T q)) (step-few (T q)) (shaped (T q)) (samples-long d.before.before) (coefficients-long d.before.before) (values-long d) (output-long d) _ _ _ _ (sym t.enum-told2.given.1 ∙ made.0) made.1 made.2 card.0 card.1
+    let card = rw (sheet (P7 (D q))) at c.write_card-length.ensures in
+    W.card-told (Xs a) (Sh a) a.args.curve a.args.step (Qs a) (Vs a) (Out a) (sizes (T q).before.before) (levels-few (T q)) (step-few (T q)) (shaped (T q)) (samples-long d.before.before) (coefficients-long d.before.before) (values-long d) (output-long d) _ _ _ _ (sym c.in-Done.is ∙ made.0) made.1 made.2 card.0 card.1
 
 pub write_spec : {M : Type 1} → statement M
 write_spec =

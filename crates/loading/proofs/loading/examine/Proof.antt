@@ -5,7 +5,6 @@ use mathlib.Core.Path.{◌≡◌, sym, ap, ◌∙◌}
 use Prim.Native.Nat.{ℕ}
 use native.Mathlib.Omega.{arith}
 use borrow.Author.Rules.{rules}
-use borrow.Author.Tests.{not-true, not-false}
 use lib.IntN.{ℤ}
 use Rattle.header.specs.declared.Details.{Details}
 use Rattle.header.specs.Plan.{loads}
@@ -16,7 +15,7 @@ use Rattle.loading.proofs.Loads.{loadable-right, loadable-here, load-bad, load-f
 use Rattle.loading.proofs.loading.examine.Statement.{statement}
 use Rattle.loading.proofs.loading.examine.Tie as tie
 
-abbrev S : tie.Else1 → tie.Start
+abbrev S : tie.Else-not-is_loadable → tie.Start
 S c = c.before.before.before
 
 abbrev Qs : tie.Start → List ℤ
@@ -28,61 +27,60 @@ Bs s = s.args.bytes.now
 abbrev why : Loading → Details
 why l = l.refused
 
-can : (c : tie.Else1) → (let s = S c in loadable (Qs s) (Bs s) s.args.header s.args.at ≡ true)
-can c = sym c.before.is-loadable.ensures ∙ not-false c.before.is-loadable.result c.if1.false
+can : (c : tie.Else-not-is_loadable) → (let s = S c in loadable (Qs s) (Bs s) s.args.header s.args.at ≡ true)
+can c = sym c.before.is_loadable.ensures ∙ c.if-not-is_loadable.false
 
-is-loadable-requires : tie.Need-is-loadable-requires
+is-loadable-requires : tie.Need-is_loadable-requires
 is-loadable-requires c κs = search rules
 
-returns : tie.Need-returns
+returns : tie.Need-returns-then-not-is_loadable
 returns c =
     let l = c.before in
     let s = l.before.before in
     ap why
-    (not-loadable (Qs s) (Bs s) s.args.header s.args.at (sym l.is-loadable.ensures ∙ not-true l.is-loadable.result c.if1.true) (whole_of (Bs s) s.args.header s.args.at))
+    (not-loadable (Qs s) (Bs s) s.args.header s.args.at (sym l.is_loadable.ensures ∙ c.if-not-is_loadable.true) (whole_of (Bs s) s.args.header s.args.at))
 
-sub-whole-planes : tie.Need-overflow-sub-whole-planes
+sub-whole-planes : tie.Need-overflow_sub-bytes
 sub-whole-planes c = let s = S c in omega (arith, loadable-here (Qs s) (Bs s) s.args.header s.args.at (can c))
 
-whole-planes-requires : tie.Need-whole-planes-requires
+whole-planes-requires : tie.Need-whole_planes-all-requires
 whole-planes-requires c κs = search rules
 
-check-body-requires : tie.Need-check-body-requires
+check-body-requires : tie.Need-check_body-requires
 check-body-requires c κs =
     let s = S c.before in
     let y = can c.before in (
       loadable-right (Qs s) (Bs s) s.args.header s.args.at y,
       loadable-here (Qs s) (Bs s) s.args.header s.args.at y,
-      whole-there (Qs s) (Bs s) s.args.header s.args.at y c.whole-planes.result _ c.whole-planes.ensures (omega arith),
+      whole-there (Qs s) (Bs s) s.args.header s.args.at y c.whole_planes-all.result _ c.whole_planes-all.ensures (omega arith),
     )
 
 -- what the planes' loading comes to
-comes : (w : tie.After-whole-planes) → (let s = S w.before in let plan = w.whole-planes.result in loading_whole (Qs s) (Bs s) s.args.header s.args.at plan (first_bad s.args.header s.args.at (Bs s) (loads plan)) ≡ all_whole (Qs s) (Bs s) s.args.header s.args.at)
-comes w = let s = S w.before in whole-loading (Qs s) (Bs s) s.args.header s.args.at (can w.before) w.whole-planes.result _ w.whole-planes.ensures (omega arith)
+comes : (w : tie.After-whole_planes-all) → (let s = S w.before in let plan = w.whole_planes-all.result in loading_whole (Qs s) (Bs s) s.args.header s.args.at plan (first_bad s.args.header s.args.at (Bs s) (loads plan)) ≡ all_whole (Qs s) (Bs s) s.args.header s.args.at)
+comes w = let s = S w.before in whole-loading (Qs s) (Bs s) s.args.header s.args.at (can w.before) w.whole_planes-all.result _ w.whole_planes-all.ensures (omega arith)
 
-enum-known-layer : tie.Need-enum-known-layer
+enum-known-layer : tie.Need-enum_known-layer
 enum-known-layer c = search rules
 
-enum_told : tie.Need-enum-told
+enum_told : tie.Need-enum_told-1
 enum_told c = search rules
 
-returns-2 : tie.Need-returns-2
+returns-2 : tie.Need-returns-in-Bad
 returns-2 c =
-    let y = c.before in
-    let l = y.before.before in
+    let l = c.before in
     let w = l.before in
     let s = S w.before in
-    ap why (load-bad s.args.header s.args.at (Bs s) w.whole-planes.result (Qs s) y.layer.given.0.0 (sym y.layer.given.1 ∙ l.check-body.ensures) ∙ comes w)
+    ap why (load-bad s.args.header s.args.at (Bs s) w.whole_planes-all.result (Qs s) c.in-Bad.layer (sym c.in-Bad.is ∙ l.check_body.ensures) ∙ comes w)
 
-returns-3 : tie.Need-returns-3
+returns-3 : tie.Need-returns-in-Fine
 returns-3 c =
-    let l = c.before.before in
+    let l = c.before in
     let w = l.before in
     let s = S w.before in
-    ap why (load-fine s.args.header s.args.at (Bs s) w.whole-planes.result (Qs s) (sym c.enum_told.given.1 ∙ l.check-body.ensures) ∙ comes w)
+    ap why (load-fine s.args.header s.args.at (Bs s) w.whole_planes-all.result (Qs s) (sym c.in-Fine.is ∙ l.check_body.ensures) ∙ comes w)
 
-pub examine-spec : {M : Type 1} → statement M
-examine-spec =
+pub examine_spec : {M : Type 1} → statement M
+examine_spec =
     tie.close
     (tie.spec
     is-loadable-requires

@@ -32,23 +32,23 @@ use Rattle.loading.proofs.Scatters.{line-apart, scattered-none, scattered-ahead,
 use Rattle.loading.proofs.refining.add_digits.Statement.{statement}
 use Rattle.loading.proofs.refining.add_digits.Tie as tie
 
-abbrev invariant-loop : tie.invariant-loop
+abbrev invariant-loop : tie.invariant-loop-t
 invariant-loop bytes from layer p coefficients₀ l scale t₀ t-end coefficients t =
     (t ≤ t-end)
     × ((sh : Shape) → Lined sh layer l
     → Scattered (point_of sh layer) (t * l.points) (λ i. at coefficients₀ (point_of sh layer i) +ℤ pos (bit_at bytes from i) *ℤ weight p) coefficients₀ coefficients)
 
-abbrev decreases-loop : tie.decreases-loop
+abbrev decreases-loop : tie.decreases-loop-t
 decreases-loop bytes from layer p coefficients₀ l scale t₀ t-end coefficients t = t-end - t
 
 abbrev L : Type 0
-L = tie.At-loop invariant-loop decreases-loop
+L = tie.At-loop-t invariant-loop decreases-loop
 
 abbrev S : L → tie.Start invariant-loop decreases-loop
 S l = l.before.before.before.before.before
 
 abbrev In : Type 0
-In = tie.In-loop invariant-loop decreases-loop
+In = tie.In-loop-t invariant-loop decreases-loop
 
 abbrev Sh : L → Shape
 Sh l = (S l).args.shape
@@ -57,7 +57,7 @@ abbrev K : L → ℕ
 K l = (S l).args.layer
 
 abbrev N : L → Lines
-N l = l.before.before.before.layer-lines.result
+N l = l.before.before.before.layer_lines-l.result
 
 abbrev Qs : L → List ℤ
 Qs l = (S l).args.coefficients.now
@@ -71,97 +71,97 @@ F l sh i = With l (at (Qs l) (point_of sh (K l) i)) i
 
 -- the layer's lines
 lines : (l : L) → Lined (Sh l) (K l) (N l)
-lines l = l.before.before.before.layer-lines.ensures
+lines l = l.before.before.before.layer_lines-l.ensures
 
 small : (l : L) → points (Sh l) ≤ points_most
-small l = (accepted-yes (Sh l) (S l).pre.0.0).small
+small l = (accepted-yes (Sh l) (S l).requires.0.0).small
 
-room : (i : In) → (let l = i.before in l.loop.t * (N l).points + (N l).points ≤ layer_size (Sh l) (K l))
-room i = let l = i.before in line-room (lines l) l.loop.t i.loop-test.true
+room : (i : In) → (let l = i.before in l.loop-t.t * (N l).points + (N l).points ≤ layer_size (Sh l) (K l))
+room i = let l = i.before in line-room (lines l) l.loop-t.t i.loop-t-test.true
 
-same : (l : L) → length l.loop.coefficients ≡ points (Sh l)
-same l = (l.loop.inv.1 (Sh l) (lines l)).same ∙ (S l).pre.1.0
+same : (l : L) → length l.loop-t.coefficients ≡ points (Sh l)
+same l = (l.loop-t.invariant.1 (Sh l) (lines l)).same ∙ (S l).requires.1.0
 
 -- a line's coefficients are those at the start, whatever the shape
 ahead : (i : In) → (let l = i.before in (sh : Shape) → Lined sh (K l) (N l) → (j : ℕ) → j < (N l).points
-    → at l.loop.coefficients (start_in (N l) l.loop.t + j * (N l).stride) ≡ at (Qs l) (point_of sh (K l) (l.loop.t * (N l).points + j)))
+    → at l.loop-t.coefficients (start_in (N l) l.loop-t.t + j * (N l).stride) ≡ at (Qs l) (point_of sh (K l) (l.loop-t.t * (N l).points + j)))
 ahead i sh d j h =
     let l = i.before in
-    let x = l.loop.t * (N l).points + j in
-    ap (at l.loop.coefficients) (sym (d.point l.loop.t j i.loop-test.true h))
-    ∙ scattered-ahead sh (K l) (F l sh) (l.loop.invariant.1 sh d) x (omega arith) (omega (arith, line-room d l.loop.t i.loop-test.true))
+    let x = l.loop-t.t * (N l).points + j in
+    ap (at l.loop-t.coefficients) (sym (d.point l.loop-t.t j i.loop-t-test.true h))
+    ∙ scattered-ahead sh (K l) (F l sh) (l.loop-t.invariant.1 sh d) x (omega arith) (omega (arith, line-room d l.loop-t.t i.loop-t-test.true))
 
 -- every coefficient of those that are all held
 held_at : (qs : List ℤ) → all_held qs ≡ true → (j : ℕ) → j < length qs → holds places_most (at qs j) ≡ true
 unfolding all_held
 held_at qs e j h = all-at (λ j. holds places_most (at qs j)) (length qs) e j h
 
-layer-lines-requires : tie.Need-layer-lines-requires invariant-loop decreases-loop
+layer-lines-requires : tie.Need-layer_lines-l-requires invariant-loop decreases-loop
 layer-lines-requires c κs = search rules
 
-weight-of-requires : tie.Need-weight-of-requires invariant-loop decreases-loop
+weight-of-requires : tie.Need-weight_of-scale-requires invariant-loop decreases-loop
 weight-of-requires c κs = c.before.before.requires.0.2
 
-mul-t-end : tie.Need-overflow-mul-t-end invariant-loop decreases-loop
-mul-t-end c = omega (arith, c.before.before.layer-lines.ensures.few)
+mul-t-end : tie.Need-overflow_mul-t-end invariant-loop decreases-loop
+mul-t-end c = omega (arith, c.before.before.layer_lines-l.ensures.few)
 
-loop-holds : tie.Need-loop-init invariant-loop decreases-loop
+loop-holds : tie.Need-loop-t-init invariant-loop decreases-loop
 loop-holds c =
-    let z : 0 * c.before.before.layer-lines.result.points ≡ 0 = omega arith in
+    let z : 0 * c.before.before.layer_lines-l.result.points ≡ 0 = omega arith in
     (omega arith, λ sh d. rw z (scattered-none _ _))
 
-mul-add-line : tie.Need-overflow-mul-add-line invariant-loop decreases-loop
+mul-add-line : tie.Need-overflow_mul-t invariant-loop decreases-loop
 mul-add-line c = let l = c.before.before in omega (arith, room c.before, size-most (Sh l) (K l), small l)
 
-line-start-requires : tie.Need-line-start-requires invariant-loop decreases-loop
+line-start-requires : tie.Need-line_start-requires invariant-loop decreases-loop
 line-start-requires c κs = tt
 
 -- the weight, as the machine hands it on
-weight_is : (l : L) → to_z w32 (of_z w32 l.before.before.weight-of.result) ≡ weight (S l).args.p
-weight_is l = to_z-of_z (sfits_of {w = w32} l.before.before.weight-of.ok) ∙ l.before.before.weight-of.ensures
+weight_is : (l : L) → to_z w32 (of_z w32 l.before.before.weight_of-scale.result) ≡ weight (S l).args.p
+weight_is l = to_z-of_z (sfits_of {w = w32} l.before.before.weight_of-scale.type_inv) ∙ l.before.before.weight_of-scale.ensures
 
-add-line-requires : tie.Need-add-line-requires invariant-loop decreases-loop
+add-line-requires : tie.Need-add_line-requires invariant-loop decreases-loop
 add-line-requires c κs =
     let i = c.before.before.before in
     let l = i.before in
-    let ht = i.loop-test.true in (
+    let ht = i.loop-t-test.true in (
       (omega (arith, room i, (S l).requires.1.2, plane-room (Sh l) (K l)), omega (arith, room i, size-most (Sh l) (K l), same l), rw (weight_is l) (omega (arith, weight-small (S l).args.p (S l).requires.0.2))),
       (
-        line-apart (Sh l) (K l) (lines l) l.loop.t ht,
+        line-apart (Sh l) (K l) (lines l) l.loop-t.t ht,
         λ j h.
-            let on = line_on (lines l) l.loop.t ht j h in
-            rw c.line-start.ensures (omega (arith, on, same l), rw (ahead i (Sh l) (lines l) j h, (lines l).point l.loop.t j ht h) (held_at (Qs l) (S l).requires.1.1 (start_in (N l) l.loop.t + j * (N l).stride) (omega (arith, on, (S l).requires.1.0)))),
+            let on = line_on (lines l) l.loop-t.t ht j h in
+            rw c.line_start.ensures (omega (arith, on, same l), rw (ahead i (Sh l) (lines l) j h, (lines l).point l.loop-t.t j ht h) (held_at (Qs l) (S l).requires.1.1 (start_in (N l) l.loop-t.t + j * (N l).stride) (omega (arith, on, (S l).requires.1.0)))),
       ),
     )
 
 -- a turn
 abbrev C : Type 0
-C = tie.After-coefficients invariant-loop decreases-loop
+C = tie.After-coefficients-1 invariant-loop decreases-loop
 
 abbrev Turn : C → In
 Turn c = c.before.before.before.before.before
 
-add-t : tie.Need-overflow-add-t invariant-loop decreases-loop
-add-t c = omega (arith, (Turn c).loop-test.true, (lines (Turn c).before).few)
+add-t : tie.Need-overflow_step-t invariant-loop decreases-loop
+add-t c = omega (arith, (Turn c).loop-t-test.true, (lines (Turn c).before).few)
 
-loop-less : tie.Need-loop-smaller invariant-loop decreases-loop
-loop-less c = omega (arith, (Turn c).loop-test.true)
+loop-less : tie.Need-loop-t-smaller invariant-loop decreases-loop
+loop-less c = omega (arith, (Turn c).loop-t-test.true)
 
-loop-again : tie.Need-loop-preserved invariant-loop decreases-loop
+loop-again : tie.Need-loop-t-preserved invariant-loop decreases-loop
 loop-again c =
     let i = Turn c in
     let l = i.before in
     let s = S l in
-    let starts = c.before.before.line-start.ensures in (
-      omega (arith, i.loop-test.taken),
+    let starts = c.before.before.line_start.ensures in (
+      omega (arith, i.loop-t-test.true),
       λ sh d.
-          scattered-line sh (K l) (F l sh) d l.loop.t i.loop-test.taken starts
-          (λ j h. ap₂ (λ (q scale : ℤ). q +ℤ pos (bit_at s.args.bytes.now s.args.from (l.loop.t * (N l).points + j)) *ℤ scale) (ap (λ (x : ℕ). at l.loop.coefficients (x + j * (N l).stride)) starts ∙ ahead i sh d j h) (weight_is l))
-          (l.loop.inv.1 sh d) c.before.add-line.ensures,
+          scattered-line sh (K l) (F l sh) d l.loop-t.t i.loop-t-test.true starts
+          (λ j h. ap₂ (λ (q scale : ℤ). q +ℤ pos (bit_at s.args.bytes.now s.args.from (l.loop-t.t * (N l).points + j)) *ℤ scale) (ap (λ (x : ℕ). at l.loop-t.coefficients (x + j * (N l).stride)) starts ∙ ahead i sh d j h) (weight_is l))
+          (l.loop-t.invariant.1 sh d) c.before.add_line.ensures,
     )
 
-same_length : tie.Need-same-length invariant-loop decreases-loop
-same_length c = let l = c.before in (l.loop.invariant.1 (Sh l) (lines l)).same
+same_length : tie.Need-shape_of-coefficients invariant-loop decreases-loop
+same_length c = let l = c.before in (l.loop-t.invariant.1 (Sh l) (lines l)).same
 
 returns : tie.Need-returns invariant-loop decreases-loop
 unfolding coefs_plus
@@ -169,14 +169,14 @@ returns c =
     let l = c.before in
     let sh = Sh l in
     let k = K l in
-    let end : l.loop.t ≡ (N l).sheets * (N l).lines = omega (arith, c.loop-test.false, l.loop.invariant.0) in
-    let e : l.loop.t * (N l).points ≡ layer_size sh k = ap (λ (x : ℕ). x * (N l).points) end ∙ (lines l).size ∙ size-there sh (S l).requires.0.0 k (S l).requires.0.1 in
+    let end : l.loop-t.t ≡ (N l).sheets * (N l).lines = omega (arith, c.loop-t-test.false, l.loop-t.invariant.0) in
+    let e : l.loop-t.t * (N l).points ≡ layer_size sh k = ap (λ (x : ℕ). x * (N l).points) end ∙ (lines l).size ∙ size-there sh (S l).requires.0.0 k (S l).requires.0.1 in
     scattered-all sh k (F l sh) (λ p. With l (at (Qs l) p) (place_in sh k p)) e (S l).requires.1.0
     (λ p h y. ap (λ (x : ℕ). With l (at (Qs l) x) (place_in sh k p)) (point-place sh k p h y))
-    (l.loop.invariant.1 sh (lines l))
+    (l.loop-t.invariant.1 sh (lines l))
 
-pub add-digits-spec : {M : Type 1} → statement M
-add-digits-spec =
+pub add_digits_spec : {M : Type 1} → statement M
+add_digits_spec =
     tie.close
     (tie.spec
     invariant-loop

@@ -5,7 +5,6 @@ use mathlib.Core.Path.{◌≡◌, sym, ap, ◌∙◌}
 use Prim.Native.Nat.{ℕ, ◌+◌, ◌*◌, ◌-◌, ◌<◌, ◌≤◌}
 use native.Mathlib.Omega.{arith}
 use borrow.Author.Rules.{rules}
-use borrow.Author.Tests.{not-true, not-false}
 use lib.IntN.{ℤ}
 use lib.ListN.{length}
 use Rattle.sheet.specs.Limits.{layers_most}
@@ -26,7 +25,7 @@ use Rattle.order.proofs.Slots.{cells-few}
 use Rattle.loading.proofs.refining.add_named.Statement.{statement}
 use Rattle.loading.proofs.refining.add_named.Tie as tie
 
-abbrev S : tie.After-cells-before → tie.Start
+abbrev S : tie.After-cells_before → tie.Start
 S c = c.before.before.before.before.before
 
 abbrev Qs : tie.Start → List ℤ
@@ -51,147 +50,147 @@ place-low : (s : tie.Start) → s.args.p < places_most
 place-low s = omega (arith, s.requires.2, few-planes (right s) s.args.layer s.requires.1)
 
 -- what the calls answer: where the plane stands, and its cells
-before_at : (c : tie.After-cells-before) → (let s = S c in c.cells-before.result ≡ cells_before s.args.header s.args.layer s.args.p)
+before_at : (c : tie.After-cells_before) → (let s = S c in c.cells_before.result ≡ cells_before s.args.header s.args.layer s.args.p)
 before_at c =
     let s = S c in
-    let r = loadable-right (Qs s) (Bs s) s.args.header s.args.at s.pre.0 in
-    c.cells-before.ensures ∙ before-is s.args.header s.args.layer s.args.p r s.pre.1 s.pre.2
+    let r = loadable-right (Qs s) (Bs s) s.args.header s.args.at s.requires.0 in
+    c.cells_before.ensures ∙ before-is s.args.header s.args.layer s.args.p r s.requires.1 s.requires.2
 
-before-few : (c : tie.After-cells-before) → c.cells-before.result ≤ cells_most
+before-few : (c : tie.After-cells_before) → c.cells_before.result ≤ cells_most
 before-few c = let s = S c in omega (arith, before_at c, cells-few s.args.header (few-planes (right s)) (right s).shape s.args.layer s.args.p)
 
-from_is : (c : tie.After-cells-before) → (let s = S c in s.args.at + cell_bytes * c.cells-before.result ≡ s.args.at + cell_bytes * cells_before s.args.header s.args.layer s.args.p)
+from_is : (c : tie.After-cells_before) → (let s = S c in s.args.at + cell_bytes * c.cells_before.result ≡ s.args.at + cell_bytes * cells_before s.args.header s.args.layer s.args.p)
 from_is c = let s = S c in ap (λ (n : ℕ). s.args.at + cell_bytes * n) (before_at c)
 
-cells : (c : tie.After-cells-before) → (let s = S c in c.before.plane-cells.result ≡ plane_cells s.args.header.shape s.args.layer)
+cells : (c : tie.After-cells_before) → (let s = S c in c.before.plane_cells-cells.result ≡ plane_cells s.args.header.shape s.args.layer)
 cells c =
     let s = S c in
-    c.before.plane-cells.ensures ∙ cells-there s.args.header.shape (right s).shape s.args.layer s.pre.1
+    c.before.plane_cells-cells.ensures ∙ cells-there s.args.header.shape (right s).shape s.args.layer s.requires.1
 
-cells-most : (c : tie.After-cells-before) → c.before.plane-cells.result ≤ plane_cells_most
+cells-most : (c : tie.After-cells_before) → c.before.plane_cells-cells.result ≤ plane_cells_most
 cells-most c = let s = S c in omega (arith, cells c, plane-most s.args.header.shape (right s).shape s.args.layer)
 
 -- past the first test it is whole, past the second the coefficients are held
-whole : (e : tie.Else1) → (let s = S e.before in cell_bytes * (cells_before s.args.header s.args.layer s.args.p + plane_cells s.args.header.shape s.args.layer) ≤ length (Bs s) - s.args.at)
-whole e = let z = e.before in omega (arith, e.if1.false, before_at z, cells z, here (S z))
+whole : (e : tie.Else-bytes-from) → (let s = S e.before in cell_bytes * (cells_before s.args.header s.args.layer s.args.p + plane_cells s.args.header.shape s.args.layer) ≤ length (Bs s) - s.args.at)
+whole e = let z = e.before in omega (arith, e.if-bytes-from.false, before_at z, cells z, here (S z))
 
-abbrev E : tie.Else2 → tie.Else1
-E d = d.before.before.before
+abbrev E : tie.Else-not-all_held → tie.Else-bytes-from
+E d = d.before.before
 
-held : (d : tie.Else2) → all_held (Qs (S (E d).before)) ≡ true
-held d = sym d.before.all_held.ensures ∙ not-false d.before.all_held.result d.if2.false
+held : (d : tie.Else-not-all_held) → all_held (Qs (S (E d).before)) ≡ true
+held d = sym d.before.all_held.ensures ∙ d.if-not-all_held.false
 
-abbrev Z : tie.After-layer-size → tie.After-cells-before
+abbrev Z : tie.After-layer_size-n → tie.After-cells_before
 Z c = (E c.before).before
 
-size : (c : tie.After-layer-size) → (let s = S (Z c) in c.layer-size.result ≡ layer_size s.args.header.shape s.args.layer)
+size : (c : tie.After-layer_size-n) → (let s = S (Z c) in c.layer_size-n.result ≡ layer_size s.args.header.shape s.args.layer)
 size c =
     let s = S (Z c) in
-    c.layer-size.ensures ∙ size-there s.args.header.shape (right s).shape s.args.layer s.pre.1
+    c.layer_size-n.ensures ∙ size-there s.args.header.shape (right s).shape s.args.layer s.requires.1
 
-fine-here : (f : tie.After-is-fine) → (let s = S (Z f.before) in fine s.args.header s.args.at (Bs s) s.args.layer s.args.p ≡ f.is-fine.result)
+fine-here : (f : tie.After-is_fine) → (let s = S (Z f.before) in fine s.args.header s.args.at (Bs s) s.args.layer s.args.p ≡ f.is_fine.result)
 fine-here f =
     let z = Z f.before in
     let s = S z in
-    fine-is s.args.header s.args.layer s.args.p s.args.at (Bs s) f.is-fine.result
-    (s.args.at + cell_bytes * z.cells-before.result)
-    f.before.layer-size.result
-    z.before.plane-cells.result
+    fine-is s.args.header s.args.layer s.args.p s.args.at (Bs s) f.is_fine.result
+    (s.args.at + cell_bytes * z.cells_before.result)
+    f.before.layer_size-n.result
+    z.before.plane_cells-cells.result
     (from_is z)
     (size f.before)
     (cells z)
-    f.is-fine.ensures
+    f.is_fine.ensures
 
-plane-cells-requires : tie.Need-plane-cells-requires
+plane-cells-requires : tie.Need-plane_cells-cells-requires
 plane-cells-requires c κs = search rules
 
-cells-before-requires : tie.Need-cells-before-requires
+cells-before-requires : tie.Need-cells_before-requires
 cells-before-requires c κs = search rules
 
-mul-from : tie.Need-overflow-mul-from
+mul-from : tie.Need-overflow_mul-from
 mul-from c = omega (arith, before-few c)
 
-add-from : tie.Need-overflow-add-from
-add-from c = omega (arith, before-few c, here (S c), (S c).well-formed)
+add-from : tie.Need-overflow_add-from
+add-from c = omega (arith, before-few c, here (S c), (S c).well_formed)
 
-mul-if1 : tie.Need-overflow-mul-if1
+mul-if1 : tie.Need-overflow_mul-cells
 mul-if1 c = omega (arith, cells-most c)
 
-add-if1 : tie.Need-overflow-add-if1
-add-if1 c = omega (arith, before-few c, cells-most c, here (S c), (S c).well-formed)
+add-if1 : tie.Need-overflow_add-from-2
+add-if1 c = omega (arith, before-few c, cells-most c, here (S c), (S c).well_formed)
 
-returns : tie.Need-returns
+returns : tie.Need-returns-then-bytes-from
 returns c =
     let z = c.before in
     let s = S z in
-    add-cut (Qs s) (Bs s) s.args.header s.args.at s.args.layer s.args.p s.pre.0 s.pre.1 s.pre.2
-    (omega (arith, c.if1.true, before_at z, cells z, here s))
+    add-cut (Qs s) (Bs s) s.args.header s.args.at s.args.layer s.args.p s.requires.0 s.requires.1 s.requires.2
+    (omega (arith, c.if-bytes-from.true, before_at z, cells z, here s))
 
-all-held-requires : tie.Need-all-held-requires
+all-held-requires : tie.Need-all_held-requires
 all-held-requires c κs =
-    let s = S c.before.before in
+    let s = S c.before in
     omega (arith, long s, (accepted-yes s.args.header.shape (right s).shape).small)
 
-same_length : tie.Need-same-length
+same_length : tie.Need-shape_of-coefficients-then-not-all_held
 same_length c = search rules
 
-returns-2 : tie.Need-returns-2
+returns-2 : tie.Need-returns-then-not-all_held
 returns-2 c =
-    let e = c.before.before.before in
+    let e = c.before.before in
     let s = S e.before in
-    add-unheld (Qs s) (Bs s) s.args.header s.args.at s.args.layer s.args.p s.pre.0 s.pre.1 s.pre.2 (whole e)
-    (sym c.before.all_held.ensures ∙ not-true c.before.all_held.result c.if2.true)
+    add-unheld (Qs s) (Bs s) s.args.header s.args.at s.args.layer s.args.p s.requires.0 s.requires.1 s.requires.2 (whole e)
+    (sym c.before.all_held.ensures ∙ c.if-not-all_held.true)
 
-layer-size-requires : tie.Need-layer-size-requires
+layer-size-requires : tie.Need-layer_size-n-requires
 layer-size-requires c κs = search rules
 
-add-is-fine : tie.Need-overflow-add-is-fine
+add-is-fine : tie.Need-overflow_add-p
 add-is-fine c = omega (arith, place-low (S (Z c)))
 
-mul-is-fine : tie.Need-overflow-mul-is-fine
+mul-is-fine : tie.Need-offset_bounds-counts-layer
 mul-is-fine c = omega (arith, layer-low (S (Z c)))
 
-array-read-is-fine : tie.Need-array-read-is-fine
+array-read-is-fine : tie.Need-bounds-counts-layer
 array-read-is-fine c = layer-low (S (Z c))
 
-is-fine-requires : tie.Need-is-fine-requires
+is-fine-requires : tie.Need-is_fine-requires
 is-fine-requires c κs =
     let z = Z c in
     let s = S z in (
       omega (arith, size c, cells z, plane-room s.args.header.shape s.args.layer),
       omega (arith, cells-most z),
-      omega (arith, (E c.before).if1.false),
+      omega (arith, (E c.before).if-bytes-from.false),
     )
 
-same-length-2 : tie.Need-same-length-2
+same-length-2 : tie.Need-shape_of-coefficients-then-not-is_fine
 same-length-2 c = search rules
 
-returns-3 : tie.Need-returns-3
+returns-3 : tie.Need-returns-then-not-is_fine
 returns-3 c =
     let f = c.before in
     let d = f.before.before in
     let s = S (Z f.before) in
-    add-bad (Qs s) (Bs s) s.args.header s.args.at s.args.layer s.args.p s.pre.0 s.pre.1 s.pre.2 (whole (E d)) (held d)
-    (fine-here f ∙ not-true f.is-fine.result c.if3.true)
+    add-bad (Qs s) (Bs s) s.args.header s.args.at s.args.layer s.args.p s.requires.0 s.requires.1 s.requires.2 (whole (E d)) (held d)
+    (fine-here f ∙ c.if-not-is_fine.true)
 
-add-digits-requires : tie.Need-add-digits-requires
+add-digits-requires : tie.Need-add_digits-requires
 add-digits-requires c κs =
     let f = c.before.before in
     let d = f.before.before in
     let z = Z f.before in
     let s = S z in (
-      ((right s).shape, s.pre.1, place-low s),
+      ((right s).shape, s.requires.1, place-low s),
       (
         long s,
         held d,
-        omega (arith, (E d).if1.false, cells z),
+        omega (arith, (E d).if-bytes-from.false, cells z),
       ),
     )
 
-same-length-3 : tie.Need-same-length-3
+same-length-3 : tie.Need-shape_of-coefficients
 same-length-3 c = search rules
 
-returns-4 : tie.Need-returns-4
+returns-4 : tie.Need-returns
 returns-4 c =
     let a = c.before in
     let g = a.before.before in
@@ -200,12 +199,12 @@ returns-4 c =
     let z = Z f.before in
     let s = S z in
     let sh = s.args.header.shape in
-    ap done (a.add-digits.ensures ∙ ap (λ (x : ℕ). coefs_plus sh s.args.layer s.args.p (bit_at (Bs s) x) (Qs s)) (from_is z))
-    ∙ add-fine (Qs s) (Bs s) s.args.header s.args.at s.args.layer s.args.p s.pre.0 s.pre.1 s.pre.2 (whole (E d)) (held d)
-    (fine-here f ∙ not-false f.is-fine.result g.if3.false)
+    ap done (a.add_digits.ensures ∙ ap (λ (x : ℕ). coefs_plus sh s.args.layer s.args.p (bit_at (Bs s) x) (Qs s)) (from_is z))
+    ∙ add-fine (Qs s) (Bs s) s.args.header s.args.at s.args.layer s.args.p s.requires.0 s.requires.1 s.requires.2 (whole (E d)) (held d)
+    (fine-here f ∙ g.if-not-is_fine.false)
 
-pub add-named-spec : {M : Type 1} → statement M
-add-named-spec =
+pub add_named_spec : {M : Type 1} → statement M
+add_named_spec =
     tie.close
     (tie.spec
     plane-cells-requires

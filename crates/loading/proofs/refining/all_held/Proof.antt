@@ -8,6 +8,7 @@ use lib.Dec.{eqb}
 use lib.IntN.{ℤ}
 use lib.ListN.{length}
 use mir.Facts.{to_z-of_z}
+use mir.Syntax.{w32}
 use borrow.Author.Rules.{rules, sfits_of}
 use borrow.Author.Tests.{eq-eqb, ne_eqb, not-false}
 use Rattle.digits.specs.Digits.{holds}
@@ -24,51 +25,51 @@ use Rattle.loading.proofs.refining.all_held.Tie as tie
 abbrev out : List ℤ → ℕ → Bool
 out qs p = not (holds places_most (at qs p))
 
-abbrev invariant-loop : tie.invariant-loop
+abbrev invariant-loop : tie.invariant-loop-j
 invariant-loop coefficients number₀ j₀ j-end number j = (j-end ≡ length coefficients) × (j ≤ j-end) × (number ≡ count (out coefficients) j)
 
-abbrev decreases-loop : tie.decreases-loop
+abbrev decreases-loop : tie.decreases-loop-j
 decreases-loop coefficients number₀ j₀ j-end number j = j-end - j
 
-loop-holds : tie.Need-loop-init invariant-loop decreases-loop
+loop-holds : tie.Need-loop-j-init invariant-loop decreases-loop
 unfolding count
 loop-holds c = (refl, omega arith, refl)
 
-mul-outside : tie.Need-overflow-mul-outside invariant-loop decreases-loop
+mul-outside : tie.Need-offset_bounds-coefficients-j invariant-loop decreases-loop
 mul-outside c = search rules
 
-shared-slice-copy-out-outside : tie.Need-shared-slice-copy-out-outside invariant-loop decreases-loop
+shared-slice-copy-out-outside : tie.Need-bounds-coefficients-j invariant-loop decreases-loop
 shared-slice-copy-out-outside c = search rules
 
-outside-requires : tie.Need-outside-requires invariant-loop decreases-loop
+outside-requires : tie.Need-outside-number-requires invariant-loop decreases-loop
 outside-requires c κs = search rules
 
-abbrev Qs : tie.After-outside invariant-loop decreases-loop → List ℤ
+abbrev Qs : tie.After-outside-number invariant-loop decreases-loop → List ℤ
 Qs c = c.before.before.before.before.args.coefficients.now
 
-abbrev J : tie.After-outside invariant-loop decreases-loop → ℕ
-J c = c.before.before.before.loop.j
+abbrev J : tie.After-outside-number invariant-loop decreases-loop → ℕ
+J c = c.before.before.before.loop-j.j
 
-mark-is : (c : tie.After-outside invariant-loop decreases-loop) → c.outside.result ≡ cond (out (Qs c) (J c)) 1 0
-mark-is c = c.outside.ensures ∙ ap (λ (q : ℤ). cond (not (holds places_most q)) 1 0) (to_z-of_z (sfits_of c.before.outside-arg.given))
+mark-is : (c : tie.After-outside-number invariant-loop decreases-loop) → c.outside-number.result ≡ cond (out (Qs c) (J c)) 1 0
+mark-is c = c.outside-number.ensures ∙ ap (λ (q : ℤ). cond (not (holds places_most q)) 1 0) (to_z-of_z {w = w32} (sfits_of c.before.outside-arg-1.given))
 
-add-number : tie.Need-overflow-add-number invariant-loop decreases-loop
+add-number : tie.Need-overflow_add-number invariant-loop decreases-loop
 add-number c =
     let l = c.before.before.before in
-    omega (arith, mark-is c, mark-most (out (Qs c)) (J c), l.loop.invariant.2, count_most (out (Qs c)) (J c), l.before.requires)
+    omega (arith, mark-is c, mark-most (out (Qs c)) (J c), l.loop-j.invariant.2, count_most (out (Qs c)) (J c), l.before.requires)
 
-add-j : tie.Need-overflow-add-j invariant-loop decreases-loop
+add-j : tie.Need-overflow_step-j invariant-loop decreases-loop
 add-j c = omega arith
 
-loop-less : tie.Need-loop-smaller invariant-loop decreases-loop
+loop-less : tie.Need-loop-j-smaller invariant-loop decreases-loop
 loop-less c = omega arith
 
-loop-again : tie.Need-loop-preserved invariant-loop decreases-loop
+loop-again : tie.Need-loop-j-preserved invariant-loop decreases-loop
 loop-again c =
     let j = J c in (
       refl,
       omega arith,
-      ap₂ (λ (m n : ℕ). m + n) c.before.before.before.loop.invariant.2 (mark-is c) ∙ count-on (out (Qs c)) j ∙ ap (count (out (Qs c))) (let z : suc j ≡ j + 1 = omega arith in z),
+      ap₂ (λ (m n : ℕ). m + n) c.before.before.before.loop-j.invariant.2 (mark-is c) ∙ count-on (out (Qs c)) j ∙ ap (count (out (Qs c))) (let z : suc j ≡ j + 1 = omega arith in z),
     )
 
 -- none counted, and all held
@@ -91,10 +92,10 @@ returns : tie.Need-returns invariant-loop decreases-loop
 returns c =
     let l = c.before in
     let qs = l.before.args.coefficients.now in
-    ap (λ (n : ℕ). eqb n 0) (l.loop.invariant.2 ∙ ap (count (out qs)) (omega (arith, l.loop.invariant.0, l.loop.invariant.1, c.loop-test.false))) ∙ none-counted qs
+    ap (λ (n : ℕ). eqb n 0) (l.loop-j.invariant.2 ∙ ap (count (out qs)) (omega (arith, l.loop-j.invariant.0, l.loop-j.invariant.1, c.loop-j-test.false))) ∙ none-counted qs
 
-pub all-held-spec : {M : Type 1} → statement M
-all-held-spec =
+pub all_held_spec : {M : Type 1} → statement M
+all_held_spec =
     tie.close
     (tie.spec
     invariant-loop

@@ -18,21 +18,21 @@ use Rattle.loading.proofs.Scatters.{scattered-none, scattered-more, line-new}
 use Rattle.loading.proofs.spreading.spread_line.Statement.{statement}
 use Rattle.loading.proofs.spreading.spread_line.Tie as tie
 
-abbrev invariant-loop : tie.invariant-loop
+abbrev invariant-loop : tie.invariant-loop-j
 invariant-loop table words start n coefficients₀ first stride j₀ coefficients j =
     (j ≤ n) × Scattered (λ i. first + i * stride) j (λ i. value (bits_of 32 (get_or words (start + i) 0))) coefficients₀ coefficients
 
-abbrev decreases-loop : tie.decreases-loop
+abbrev decreases-loop : tie.decreases-loop-j
 decreases-loop table words start n coefficients₀ first stride j₀ coefficients j = n - j
 
 abbrev L : Type 0
-L = tie.At-loop invariant-loop decreases-loop
+L = tie.At-loop-j invariant-loop decreases-loop
 
 abbrev S : L → tie.Start invariant-loop decreases-loop
 S l = l.before.before
 
 abbrev In : Type 0
-In = tie.In-loop invariant-loop decreases-loop
+In = tie.In-loop-j invariant-loop decreases-loop
 
 -- place i of the line, and the number that it gets
 abbrev P : L → ℕ → ℕ
@@ -41,78 +41,78 @@ P l i = (S l).args.first + i * (S l).args.stride
 abbrev F : L → ℕ → ℤ
 F l i = value (bits_of 32 (get_or (S l).args.words.now ((S l).args.start + i) 0))
 
-spot : (i : In) → (let l = i.before in P l l.loop.j < length (S l).args.coefficients.now)
-spot i = (S i.before).pre.1.1 i.before.loop.j i.loop-test.true
+spot : (i : In) → (let l = i.before in P l l.loop-j.j < length (S l).args.coefficients.now)
+spot i = (S i.before).requires.1.1 i.before.loop-j.j i.loop-j-test.true
 
-loop-holds : tie.Need-loop-init invariant-loop decreases-loop
+loop-holds : tie.Need-loop-j-init invariant-loop decreases-loop
 loop-holds c = (omega arith, scattered-none _ _)
 
-add-by-groups : tie.Need-overflow-add-by-groups invariant-loop decreases-loop
-add-by-groups c = omega (arith, (S c.before).pre.0.1, (S c.before).good, c.loop-test.true)
+add-by-groups : tie.Need-overflow_add-start invariant-loop decreases-loop
+add-by-groups c = omega (arith, (S c.before).requires.0.1, (S c.before).well_formed, c.loop-j-test.true)
 
-mul-by-groups : tie.Need-overflow-mul-by-groups invariant-loop decreases-loop
-mul-by-groups c = omega (arith, (S c.before).pre.0.1, (S c.before).good, c.loop-test.true)
+mul-by-groups : tie.Need-offset_bounds-words-start invariant-loop decreases-loop
+mul-by-groups c = omega (arith, (S c.before).requires.0.1, (S c.before).well_formed, c.loop-j-test.true)
 
-shared-slice-read-by-groups : tie.Need-shared-slice-read-by-groups invariant-loop decreases-loop
-shared-slice-read-by-groups c = let i = c.before in omega (arith, (S i.before).pre.0.1, i.loop-test.true)
+shared-slice-read-by-groups : tie.Need-bounds-words-start invariant-loop decreases-loop
+shared-slice-read-by-groups c = let i = c.before in omega (arith, (S i.before).requires.0.1, i.loop-j-test.true)
 
-by-groups-requires : tie.Need-by-groups-requires invariant-loop decreases-loop
+by-groups-requires : tie.Need-by_groups-requires invariant-loop decreases-loop
 by-groups-requires c κs = search rules
 
 -- the number of a word, by its groups
-number : (c : tie.After-by-groups invariant-loop decreases-loop) → (let l = c.before.before.before in c.by-groups.result ≡ F l l.loop.j)
+number : (c : tie.After-by_groups invariant-loop decreases-loop) → (let l = c.before.before.before in c.by_groups.result ≡ F l l.loop-j.j)
 number c =
     let l = c.before.before.before in
-    let at = (S l).args.start + l.loop.j in
+    let at = (S l).args.start + l.loop-j.j in
     let w = get_or (S l).args.words.now at 0 in
-    c.by-groups.ensures ∙ ap (λ table. by_groups table w) (S l).requires.0.0 ∙ by-groups w (omega (arith, (S l).requires.0.2 at))
+    c.by_groups.ensures ∙ ap (λ table. by_groups table w) (S l).requires.0.0 ∙ by-groups w (omega (arith, (S l).requires.0.2 at))
 
 -- fits an i32
-cast-coefficients : tie.Need-overflow-cast-coefficients invariant-loop decreases-loop
+cast-coefficients : tie.Need-overflow_cast-coefficients invariant-loop decreases-loop
 cast-coefficients c =
     let l = c.before.before.before in
-    let at = (S l).args.start + l.loop.j in
+    let at = (S l).args.start + l.loop-j.j in
     let w = get_or (S l).args.words.now at 0 in
-    sfits-by (via (result-is c.by-groups.type-inv (number c)) (# (F l l.loop.j))) (omega (arith, bits-within 32 w, (S l).requires.0.2 at))
+    sfits-by (via (result-is c.by_groups.type_inv (number c)) (# (F l l.loop-j.j))) (omega (arith, bits-within 32 w, (S l).requires.0.2 at))
 
-mul-t16 : tie.Need-overflow-mul-t16 invariant-loop decreases-loop
-mul-t16 c = let i = c.before.before in omega (arith, spot i, (S i.before).good)
+mul-t16 : tie.Need-overflow_mul-j invariant-loop decreases-loop
+mul-t16 c = let i = c.before.before in omega (arith, spot i, (S i.before).well_formed)
 
-add-t17 : tie.Need-overflow-add-t17 invariant-loop decreases-loop
-add-t17 c = let i = c.before.before in omega (arith, spot i, (S i.before).good)
+add-t17 : tie.Need-overflow_add-first invariant-loop decreases-loop
+add-t17 c = let i = c.before.before in omega (arith, spot i, (S i.before).well_formed)
 
-mul-t18 : tie.Need-overflow-mul-t18 invariant-loop decreases-loop
-mul-t18 c = let i = c.before.before in omega (arith, spot i, (S i.before).good)
+mul-t18 : tie.Need-offset_bounds-coefficients-first invariant-loop decreases-loop
+mul-t18 c = let i = c.before.before in omega (arith, spot i, (S i.before).well_formed)
 
-slice-set-from-coefficients : tie.Need-slice-set-from-coefficients invariant-loop decreases-loop
-slice-set-from-coefficients c = let i = c.before.before in omega (arith, spot i, i.before.loop.invariant.1.same)
+slice-set-from-coefficients : tie.Need-bounds-coefficients-first invariant-loop decreases-loop
+slice-set-from-coefficients c = let i = c.before.before in omega (arith, spot i, i.before.loop-j.invariant.1.same)
 
-add-j : tie.Need-overflow-add-j invariant-loop decreases-loop
-add-j c = let i = c.before.before in omega (arith, i.loop-test.true, (S i.before).fits.n)
+add-j : tie.Need-overflow_step-j invariant-loop decreases-loop
+add-j c = let i = c.before.before in omega (arith, i.loop-j-test.true, (S i.before).ranges.n)
 
-loop-less : tie.Need-loop-smaller invariant-loop decreases-loop
-loop-less c = omega (arith, c.before.before.loop-test.true)
+loop-less : tie.Need-loop-j-smaller invariant-loop decreases-loop
+loop-less c = omega (arith, c.before.before.loop-j-test.true)
 
-loop-again : tie.Need-loop-preserved invariant-loop decreases-loop
+loop-again : tie.Need-loop-j-preserved invariant-loop decreases-loop
 loop-again c =
     let i = c.before.before in
     let l = i.before in (
-      omega (arith, i.loop-test.true),
-      scattered-more (P l) (F l) _ (λ k h. line-new (S l).args.first (S l).args.stride ((S l).requires.1.0 (omega (arith, i.loop-test.true))) k l.loop.j h) (spot i)
-          (to_z-of_z (cast-coefficients c) ∙ result-is c.by-groups.type-inv (number c)) l.loop.invariant.1,
+      omega (arith, i.loop-j-test.true),
+      scattered-more (P l) (F l) _ (λ k h. line-new (S l).args.first (S l).args.stride ((S l).requires.1.0 (omega (arith, i.loop-j-test.true))) k l.loop-j.j h) (spot i)
+          (to_z-of_z (cast-coefficients c) ∙ result-is c.by_groups.type_inv (number c)) l.loop-j.invariant.1,
     )
 
-same_length : tie.Need-same-length invariant-loop decreases-loop
-same_length c = c.before.loop.invariant.1.same
+same_length : tie.Need-shape_of-coefficients invariant-loop decreases-loop
+same_length c = c.before.loop-j.invariant.1.same
 
 returns : tie.Need-returns invariant-loop decreases-loop
 returns c =
     let l = c.before in
-    let e : l.loop.j ≡ (S l).args.n = omega (arith, c.loop-test.false, l.loop.invariant.0) in
-    rw (← e) l.loop.invariant.1
+    let e : l.loop-j.j ≡ (S l).args.n = omega (arith, c.loop-j-test.false, l.loop-j.invariant.0) in
+    rw (← e) l.loop-j.invariant.1
 
-pub spread-line-spec : {M : Type 1} → statement M
-spread-line-spec =
+pub spread_line_spec : {M : Type 1} → statement M
+spread_line_spec =
     tie.close
     (tie.spec
     invariant-loop

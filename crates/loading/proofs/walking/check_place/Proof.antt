@@ -1,7 +1,7 @@
 -- The loop's invariant, at layer k: the cells before its plane, and no layer so far has a bad one.
 use mathlib.Core.Path.{◌≡◌, sym, ap, ◌∙◌}
 use mathlib.Core.Bool.{false, not}
-use Prim.Native.Nat.{ℕ, ◌+◌, ◌-◌, ◌≤◌}
+use Prim.Native.Nat.{ℕ, ◌+◌, ◌-◌, ◌<◌, ◌≤◌}
 use native.Mathlib.Omega.{arith}
 use borrow.Author.Count.{below_more}
 use borrow.Author.Tests.{not-true, not-false}
@@ -19,131 +19,134 @@ use Rattle.loading.proofs.Turns.{Turn, turn, cells-on, answer-is}
 use Rattle.loading.proofs.walking.check_place.Statement.{statement}
 use Rattle.loading.proofs.walking.check_place.Tie as tie
 
-abbrev invariant-loop : tie.invariant-loop
+abbrev invariant-loop : tie.invariant-loop-k
 invariant-loop bytes at p before header plan sizes spans layers cells₀ k₀ cells k =
     (k ≤ layers) × (cells ≡ cells_before header k p) × FineBefore header at bytes (loads plan) k p
 
-abbrev decreases-loop : tie.decreases-loop
+abbrev decreases-loop : tie.decreases-loop-k
 decreases-loop bytes at p before header plan sizes spans layers cells₀ k₀ cells k = layers - k
 
 -- ---- the terms
-abbrev S : tie.At-loop invariant-loop decreases-loop → tie.Start invariant-loop decreases-loop
+abbrev S : tie.At-loop-k invariant-loop decreases-loop → tie.Start invariant-loop decreases-loop
 S l = l.before.before.before.before
 
 abbrev H : tie.Start invariant-loop decreases-loop → Header
-H s = s.args.t3
+H s = s.args.header
 
 abbrev plan : tie.Start invariant-loop decreases-loop → ℕ → ℕ
-plan s = loads s.args.t4
+plan s = loads s.args.plan
 
 right : (s : tie.Start invariant-loop decreases-loop) → WellFormed (H s)
 right s = right-yes (H s) s.requires.0.0
 
-count : (l : tie.At-loop invariant-loop decreases-loop) → l.before.layer-count.result ≡ layers (H (S l)).shape
-count l = l.before.layer-count.ensures ∙ count-is (H (S l)).shape (right (S l)).shape
+count : (l : tie.At-loop-k invariant-loop decreases-loop) → l.before.layer_count-layers.result ≡ layers (H (S l)).shape
+count l = l.before.layer_count-layers.ensures ∙ count-is (H (S l)).shape (right (S l)).shape
 
-here : (i : tie.In-loop invariant-loop decreases-loop) → (let l = i.before in let s = S l in Turn (H s) l.loop.k s.args.p l.loop.cells (get_or s.args.t5 l.loop.k 0) (get_or s.args.t6 l.loop.k 0))
-here i =
-    let l = i.before in
+here-at : (l : tie.At-loop-k invariant-loop decreases-loop) → l.loop-k.k < l.before.layer_count-layers.result
+    → (let s = S l in Turn (H s) l.loop-k.k s.args.p l.loop-k.cells (get_or s.args.sizes l.loop-k.k 0) (get_or s.args.spans l.loop-k.k 0))
+here-at l m =
     let s = S l in
-    turn (H s) (right s) s.args.t5 s.args.t6 s.pre.1.0 s.pre.1.1 l.loop.k s.args.p l.loop.cells (omega (arith, i.loop-test.true, count l)) l.loop.invariant.1
+    turn (H s) (right s) s.args.sizes s.args.spans s.requires.1.0 s.requires.1.1 l.loop-k.k s.args.p l.loop-k.cells (omega (arith, m, count l)) l.loop-k.invariant.1
+
+here : (i : tie.In-loop-k invariant-loop decreases-loop) → (let l = i.before in let s = S l in Turn (H s) l.loop-k.k s.args.p l.loop-k.cells (get_or s.args.sizes l.loop-k.k 0) (get_or s.args.spans l.loop-k.k 0))
+here i = here-at i.before i.loop-k-test.true
 
 -- ---- what a slot answers
-abbrev I : tie.After-check-slot invariant-loop decreases-loop → tie.In-loop invariant-loop decreases-loop
+abbrev I : tie.After-check_slot invariant-loop decreases-loop → tie.In-loop-k invariant-loop decreases-loop
 I q = q.before.before.before
 
-answer : (q : tie.After-check-slot invariant-loop decreases-loop) → (let l = (I q).before in let s = S l in q.check-slot.result ≡ not (bad_slot (H s) s.args.at s.args.bytes.now (plan s) (slot_no (H s) l.loop.k s.args.p)))
+answer : (q : tie.After-check_slot invariant-loop decreases-loop) → (let l = (I q).before in let s = S l in q.check_slot.result ≡ not (bad_slot (H s) s.args.at s.args.bytes.now (plan s) (slot_no (H s) l.loop-k.k s.args.p)))
 answer q =
     let s = S (I q).before in
-    q.check-slot.ensures ∙ answer-is (here (I q)) s.args.at s.args.bytes.now (plan s) s.pre.0.2
+    q.check_slot.ensures ∙ answer-is (here (I q)) s.args.at s.args.bytes.now (plan s) s.requires.0.2
 
 -- ---- the needs
-layer-count-requires : tie.Need-layer-count-requires invariant-loop decreases-loop
+layer-count-requires : tie.Need-layer_count-layers-requires invariant-loop decreases-loop
 layer-count-requires c κs = tt
 
-loop-holds : tie.Need-loop-init invariant-loop decreases-loop
+loop-holds : tie.Need-loop-k-init invariant-loop decreases-loop
 loop-holds c = (omega arith, c.before.before.before.requires.0.3, λ j m. absurd (let z : ⊥ = omega arith in z))
 
-mul-n : tie.Need-overflow-mul-n invariant-loop decreases-loop
-mul-n c = omega (arith, (here c).layer)
+mul-n : tie.Need-offset_bounds-sizes-k invariant-loop decreases-loop
+mul-n c = omega (arith, (here-at c.before c.loop-k-test.true).layer)
 
-array-read-n : tie.Need-array-read-n invariant-loop decreases-loop
-array-read-n c = (here c).layer
+array-read-n : tie.Need-bounds-sizes-k invariant-loop decreases-loop
+array-read-n c = (here-at c.before c.loop-k-test.true).layer
 
-mul-span : tie.Need-overflow-mul-span invariant-loop decreases-loop
-mul-span c = omega (arith, (here c).layer)
+mul-span : tie.Need-offset_bounds-spans-k invariant-loop decreases-loop
+mul-span c = omega (arith, (here-at c.before c.loop-k-test.true).layer)
 
-array-read-span : tie.Need-array-read-span invariant-loop decreases-loop
-array-read-span c = (here c).layer
+array-read-span : tie.Need-bounds-spans-k invariant-loop decreases-loop
+array-read-span c = (here-at c.before c.loop-k-test.true).layer
 
-mul-count : tie.Need-overflow-mul-count invariant-loop decreases-loop
+mul-count : tie.Need-offset_bounds-header-k invariant-loop decreases-loop
 mul-count c = omega (arith, (here c).layer)
 
-element-copy-out-count : tie.Need-element-copy-out-count invariant-loop decreases-loop
+element-copy-out-count : tie.Need-bounds-header-k invariant-loop decreases-loop
 element-copy-out-count c = (here c).layer
 
-mul-want : tie.Need-overflow-mul-want invariant-loop decreases-loop
+mul-want : tie.Need-offset_bounds-plan-k invariant-loop decreases-loop
 mul-want c = omega (arith, (here c.before).layer)
 
-element-copy-out-want : tie.Need-element-copy-out-want invariant-loop decreases-loop
+element-copy-out-want : tie.Need-bounds-plan-k invariant-loop decreases-loop
 element-copy-out-want c = (here c.before).layer
 
-mul-from : tie.Need-overflow-mul-from invariant-loop decreases-loop
+mul-from : tie.Need-overflow_mul-from invariant-loop decreases-loop
 mul-from c = omega (arith, (here c.before.before).few)
 
-add-from : tie.Need-overflow-add-from invariant-loop decreases-loop
-add-from c = let i = c.before.before in omega (arith, (here i).few, (S i.before).pre.0.1, (S i.before).good)
+add-from : tie.Need-overflow_add-from invariant-loop decreases-loop
+add-from c = let i = c.before.before in omega (arith, (here i).few, (S i.before).requires.0.1, (S i.before).well_formed)
 
-check-slot-requires : tie.Need-check-slot-requires invariant-loop decreases-loop
+check-slot-requires : tie.Need-check_slot-requires invariant-loop decreases-loop
 check-slot-requires c κs =
     let i = c.before.before in
     let s = S i.before in
     let t = here i in
-    (s.pre.0.2, t.room, omega (arith, t.narrow), λ e. omega (arith, t.before, t.span, s.pre.1.2 i.before.loop.k s.args.p t.below e))
+    (s.requires.0.2, t.room, omega (arith, t.narrow), λ e. omega (arith, t.before, t.span, s.requires.1.2 i.before.loop-k.k s.args.p t.below e))
 
-returns : tie.Need-returns invariant-loop decreases-loop
+returns : tie.Need-returns-then-not-check_slot invariant-loop decreases-loop
 returns c =
     let q = c.before in
-    ((here (I q)).below, not-false _ (sym (answer q) ∙ not-true q.check-slot.result c.if1.true), (I q).before.loop.invariant.2)
+    ((here (I q)).below, not-false _ (sym (answer q) ∙ c.if-not-check_slot.true), (I q).before.loop-k.invariant.2)
 
-span-at-requires : tie.Need-span-at-requires invariant-loop decreases-loop
+span-at-requires : tie.Need-span_at-requires invariant-loop decreases-loop
 span-at-requires c κs = tt
 
-abbrev Q : tie.After-span-at invariant-loop decreases-loop → tie.After-check-slot invariant-loop decreases-loop
+abbrev Q : tie.After-span_at invariant-loop decreases-loop → tie.After-check_slot invariant-loop decreases-loop
 Q c = c.before.before
 
-on : (c : tie.After-span-at invariant-loop decreases-loop) → (let l = (I (Q c)).before in l.loop.cells + c.span-at.result ≡ cells_before (H (S l)) (l.loop.k + 1) (S l).args.p)
-on c = cells-on (here (I (Q c))) c.span-at.result c.span-at.ensures
+on : (c : tie.After-span_at invariant-loop decreases-loop) → (let l = (I (Q c)).before in l.loop-k.cells + c.span_at.result ≡ cells_before (H (S l)) (l.loop-k.k + 1) (S l).args.p)
+on c = cells-on (here (I (Q c))) c.span_at.result c.span_at.ensures
 
-add-cells : tie.Need-overflow-add-cells invariant-loop decreases-loop
+add-cells : tie.Need-overflow_add-cells invariant-loop decreases-loop
 add-cells c = omega (arith, on c, (here (I (Q c))).few-next)
 
-add-k : tie.Need-overflow-add-k invariant-loop decreases-loop
+add-k : tie.Need-overflow_step-k invariant-loop decreases-loop
 add-k c = omega (arith, (here (I (Q c))).layer)
 
-loop-less : tie.Need-loop-smaller invariant-loop decreases-loop
-loop-less c = omega (arith, (I (Q c)).loop-test.taken)
+loop-less : tie.Need-loop-k-smaller invariant-loop decreases-loop
+loop-less c = omega (arith, (I (Q c)).loop-k-test.true)
 
-loop-again : tie.Need-loop-preserved invariant-loop decreases-loop
+loop-again : tie.Need-loop-k-preserved invariant-loop decreases-loop
 loop-again c =
     let q = Q c in
     let l = (I q).before in
     let s = S l in (
-      omega (arith, (I q).loop-test.taken),
+      omega (arith, (I q).loop-k-test.true),
       on c,
-      below_more (λ (j : ℕ). bad_slot (H s) s.args.at s.args.bytes.now (plan s) (slot_no (H s) j s.args.p) ≡ false) l.loop.k l.loop.inv.2
-          (not-true _ (sym (answer q) ∙ not-false q.check-slot.result c.before.if1.false)),
+      below_more (λ (j : ℕ). bad_slot (H s) s.args.at s.args.bytes.now (plan s) (slot_no (H s) j s.args.p) ≡ false) l.loop-k.k l.loop-k.invariant.2
+          (not-true _ (sym (answer q) ∙ c.before.if-not-check_slot.false)),
     )
 
-returns-2 : tie.Need-returns-2 invariant-loop decreases-loop
+returns-2 : tie.Need-returns invariant-loop decreases-loop
 returns-2 c =
     let l = c.before in
     let s = S l in
-    let end : l.loop.k ≡ layers (H s).shape = omega (arith, c.loop-test.false, l.loop.invariant.0, count l) in
-    (l.loop.invariant.1 ∙ ap (λ (k : ℕ). cells_before (H s) k s.args.p) end, rw end at l.loop.invariant.2)
+    let end : l.loop-k.k ≡ layers (H s).shape = omega (arith, c.loop-k-test.false, l.loop-k.invariant.0, count l) in
+    (l.loop-k.invariant.1 ∙ ap (λ (k : ℕ). cells_before (H s) k s.args.p) end, rw end at l.loop-k.invariant.2)
 
-pub check-place-spec : {M : Type 1} → statement M
-check-place-spec =
+pub check_place_spec : {M : Type 1} → statement M
+check_place_spec =
     tie.close
     (tie.spec
     invariant-loop

@@ -3,7 +3,6 @@ use mathlib.Core.Path.{◌≡◌, sym, ap, ◌∙◌}
 use mathlib.Core.Bool.{true, not}
 use Prim.Native.Nat.{◌+◌, ◌-◌, ◌*◌}
 use native.Mathlib.Omega.{arith}
-use borrow.Author.Tests.{not-true, not-false}
 use lib.Dec.{eqb}
 use lib.ListN.{get_or}
 use Rattle.header.specs.Header.{cell_bytes, cell_points}
@@ -15,44 +14,36 @@ use borrow.Author.Rules.{rules}
 use Rattle.loading.proofs.walking.is_fine.Statement.{statement}
 use Rattle.loading.proofs.walking.is_fine.Tie as tie
 
-spare-zero-requires : tie.Need-spare-zero-requires
+spare-zero-requires : tie.Need-spare_zero-requires
 spare-zero-requires c κs = search rules
 
-returns : tie.Need-returns
+returns : tie.Need-returns-then-not-spare_zero
 returns c = let s = c.before.before.before in
-    sym (fine-spare s.args.bytes.now s.args.from s.args.n s.args.cells s.args.top (sym c.before.spare-zero.ensures ∙ not-true c.before.spare-zero.result c.if1.true))
+    sym (fine-spare s.args.bytes.now s.args.from s.args.n s.args.cells s.args.top (sym c.before.spare_zero.ensures ∙ c.if-not-spare_zero.true))
 
-mul-all-zero : tie.Need-overflow-mul-all-zero
+mul-all-zero : tie.Need-overflow_mul-cells
 mul-all-zero c = search rules
 
-add-all-zero : tie.Need-overflow-add-all-zero
+add-all-zero : tie.Need-overflow_add-from
 add-all-zero c = search rules
 
-all-zero-requires : tie.Need-all-zero-requires
+all-zero-requires : tie.Need-all_zero-requires
 all-zero-requires c κs = search rules
 
-returns-2 : tie.Need-returns-2
+returns-2 : tie.Need-returns-then-top
 unfolding clean has_one
 returns-2 c = let s = c.before.before.before.before.before in
     let bs = s.args.bytes.now in
-    let none : clean (bit_at bs s.args.from) s.args.n s.args.cells ≡ true = sym c.before.before.before.spare-zero.ensures ∙ not-false c.before.before.before.spare-zero.result c.before.before.if1.false in
+    let none : clean (bit_at bs s.args.from) s.args.n s.args.cells ≡ true = sym c.before.before.before.spare_zero.ensures ∙ c.before.before.if-not-spare_zero.false in
     let long : s.args.from + cell_bytes * s.args.cells - s.args.from ≡ cell_bytes * s.args.cells = omega arith in
-    ap not (c.all-zero.ensures ∙ ap (all_below (λ b. eqb (get_or bs (s.args.from + b) 0) 0)) long
-    ∙ points-bits bs s.args.from (λ i. omega (arith, c.before.before.before.before.shared-slice-known.given i)) s.args.n (cell_bytes * s.args.cells) (cell_points * s.args.cells) (omega arith) (omega arith) none)
-    ∙ sym (fine-top bs s.args.from s.args.n s.args.cells s.args.top none c.before.if2.true)
+    ap not (c.all_zero.ensures ∙ ap (all_below (λ b. eqb (get_or bs (s.args.from + b) 0) 0)) long
+    ∙ points-bits bs s.args.from (λ i. omega (arith, c.before.before.before.before.shared_slice_known-1.given i)) s.args.n (cell_bytes * s.args.cells) (cell_points * s.args.cells) (omega arith) (omega arith) none)
+    ∙ sym (fine-top bs s.args.from s.args.n s.args.cells s.args.top none c.before.if-top.true)
 
-returns-3 : tie.Need-returns-3
+returns-3 : tie.Need-returns
 returns-3 c = let s = c.before.before.before.before in
-    sym (fine-lower s.args.bytes.now s.args.from s.args.n s.args.cells s.args.top (sym c.before.before.spare-zero.ensures ∙ not-false c.before.before.spare-zero.result c.before.if1.false) c.if2.false)
+    sym (fine-lower s.args.bytes.now s.args.from s.args.n s.args.cells s.args.top (sym c.before.before.spare_zero.ensures ∙ c.before.if-not-spare_zero.false) c.if-top.false)
 
-pub is-fine-spec : {M : Type 1} → statement M
-is-fine-spec =
-    tie.close
-    (tie.spec
-    spare-zero-requires
-    returns
-    mul-all-zero
-    add-all-zero
-    all-zero-requires
-    returns-2
-    returns-3)
+pub is_fine_spec : {M : Type 1} → statement M
+is_fine_spec =
+    tie.close (tie.spec spare-zero-requires returns mul-all-zero add-all-zero all-zero-requires returns-2 returns-3)

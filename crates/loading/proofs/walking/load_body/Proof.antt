@@ -13,7 +13,6 @@ use Rattle.order.specs.Workings.{slot_no}
 use Rattle.order.proofs.CardOrder.{first-place}
 use Rattle.header.proofs.WellFormed.{WellFormed, right-yes, few-planes}
 use Rattle.loading.specs.declared.Placed.{Placed}
-use Rattle.loading.specs.declared.Placed.TheVariants as Placed
 use Rattle.loading.specs.Workings.Words.{halves, halved, Partly, PlaceRead}
 use Rattle.loading.proofs.HalfBytes.{halves-down}
 use Rattle.loading.proofs.WordSums.{none_is, partly_none, partly-all}
@@ -21,7 +20,7 @@ use Rattle.loading.proofs.Turns.{FineUpTo, slot-behind, cells-down, fine-on, bad
 use Rattle.loading.proofs.walking.load_body.Statement.{statement}
 use Rattle.loading.proofs.walking.load_body.Tie as tie
 
-abbrev invariant-loop : tie.invariant-loop
+abbrev invariant-loop : tie.invariant-loop-t
 invariant-loop bytes at header plan words₀ sizes spans table₀ cells₀ t₀ words table cells t =
     (t ≤ places_most)
     × (t < places_most → table ≡ halves (places_most - 1 - t))
@@ -29,12 +28,12 @@ invariant-loop bytes at header plan words₀ sizes spans table₀ cells₀ t₀ 
     × FineUpTo header at bytes (loads plan) (t * layers header.shape)
     × Partly header at bytes (loads plan) (t * layers header.shape) words
 
-abbrev decreases-loop : tie.decreases-loop
+abbrev decreases-loop : tie.decreases-loop-t
 decreases-loop bytes at header plan words₀ sizes spans table₀ cells₀ t₀ words table cells t = places_most - t
 
 -- ---- the terms
-abbrev S : tie.At-loop invariant-loop decreases-loop → tie.Start invariant-loop decreases-loop
-S l = l.before.before.before.before.before.before
+abbrev S : tie.At-loop-t invariant-loop decreases-loop → tie.Start invariant-loop decreases-loop
+S l = l.before.before.before.before.before.before.before
 
 abbrev H : tie.Start invariant-loop decreases-loop → Header
 H s = s.args.header
@@ -52,115 +51,115 @@ none : (s : tie.Start invariant-loop decreases-loop) → Partly (H s) s.args.at 
 none s = partly_none (H s) s.args.at s.args.bytes.now (plan s) _ s.args.words.now s.requires.0.2 refl
 
 -- the words that a place leaves
-abbrev left : tie.After-load-place invariant-loop decreases-loop → List ℕ
-left q = q.load-place.new.1.1.1.1.1.1.1.1.1.0
+abbrev left : tie.After-load_place invariant-loop decreases-loop → List ℕ
+left q = q.load_place.new.words
 
 -- ---- the needs
-sizes-of-requires : tie.Need-sizes-of-requires invariant-loop decreases-loop
+sizes-of-requires : tie.Need-sizes_of-sizes-requires invariant-loop decreases-loop
 sizes-of-requires c κs = tt
 
-spans-requires : tie.Need-spans-requires invariant-loop decreases-loop
+spans-requires : tie.Need-spans-spans-requires invariant-loop decreases-loop
 spans-requires c κs = tt
 
-halves-requires : tie.Need-halves-requires invariant-loop decreases-loop
+halves-requires : tie.Need-halves-table-requires invariant-loop decreases-loop
 halves-requires c κs = omega arith
 
-loop-holds : tie.Need-loop-init invariant-loop decreases-loop
+loop-holds : tie.Need-loop-t-init invariant-loop decreases-loop
 loop-holds c =
-    let s = c.before.before.before.before.before in
+    let s = c.before.before.before.before.before.before in
     let no : 0 * K s ≡ 0 = omega arith in (
       omega arith,
-      λ _. c.halves.ensures,
+      λ _. c.halves-table.ensures,
       λ _. sym (first-place (H s) (few-planes (right s)) (places_most - 1 - 0) (omega arith)),
       λ u m. absurd (let z : ⊥ = omega arith in z),
       rw no (none s),
     )
 
-sub-p : tie.Need-overflow-sub-p invariant-loop decreases-loop
-sub-p c = omega (arith, c.loop-test.true)
+sub-p : tie.Need-overflow_sub-p invariant-loop decreases-loop
+sub-p c = omega (arith, c.loop-t-test.true)
 
-load-place-requires : tie.Need-load-place-requires invariant-loop decreases-loop
+load-place-requires : tie.Need-load_place-requires invariant-loop decreases-loop
 load-place-requires c κs =
     let i = c.before.before in
     let l = i.before in
     let s = S l in
-    let t = i.loop-test.true in
-    let first : l.loop.t * K s ≡ slot_no (H s) 0 (places_most - 1 - l.loop.t) = omega (arith, slot-behind (H s) l.loop.t t 0) in (
-      (s.pre.0.0, s.pre.0.1, omega arith, l.loop.invariant.2 t),
-      ((l.before.before.before.sizes-of.ensures, l.before.before.spans.ensures, l.loop.invariant.1 t), (s.pre.1, rw first at l.loop.invariant.4)),
+    let t = i.loop-t-test.true in
+    let first : l.loop-t.t * K s ≡ slot_no (H s) 0 (places_most - 1 - l.loop-t.t) = omega (arith, slot-behind (H s) l.loop-t.t t 0) in (
+      (s.requires.0.0, s.requires.0.1, omega arith, l.loop-t.invariant.2 t),
+      ((l.before.before.before.sizes_of-sizes.ensures, l.before.before.spans-spans.ensures, l.loop-t.invariant.1 t), (s.requires.1, rw first at l.loop-t.invariant.4)),
     )
 
-enum-known-layer : tie.Need-enum-known-layer invariant-loop decreases-loop
+enum-known-layer : tie.Need-enum_known-layer invariant-loop decreases-loop
 enum-known-layer c = search rules
 
-same_length : tie.Need-same-length invariant-loop decreases-loop
+same_length : tie.Need-shape_of-words-in-Bad invariant-loop decreases-loop
 same_length c =
-    let q = c.before.before.before.before.before in
+    let q = c.before.before.before in
     let l = q.before.before.before.before in
-    q.load-place.auto.1.1.1.1.1.1.1.1.1.0 ∙ l.loop.invariant.4.long_is ∙ sym (none (S l)).long_is
+    q.load_place.auto.words ∙ l.loop-t.invariant.4.long_is ∙ sym (none (S l)).long_is
 
-returns : tie.Need-returns invariant-loop decreases-loop
+returns : tie.Need-returns-in-Bad invariant-loop decreases-loop
 returns c =
-    let q = c.before.before.before.before.before in
+    let q = c.before.before.before in
     let i = q.before.before.before in
     let l = i.before in
     let s = S l in
-    let p = places_most - 1 - l.loop.t in
+    let p = places_most - 1 - l.loop-t.t in
     let bs = s.args.bytes.now in
-    let k = c.before.layer.given.0.0 in
-    let read = subst (λ (r : Placed). PlaceRead (H s) s.args.at bs (plan s) p r (left q)) c.before.layer.given.1 q.load-place.ensures in (
-      sym (bad-first (H s) s.args.at bs (plan s) l.loop.t i.loop-test.true l.loop.invariant.3 k read.0 read.1 read.2),
+    let k = c.in-Bad.layer in
+    let read = subst (λ (r : Placed). PlaceRead (H s) s.args.at bs (plan s) p r (left q)) c.in-Bad.is q.load_place.ensures in (
+      sym (bad-first (H s) s.args.at bs (plan s) l.loop-t.t i.loop-t-test.true l.loop-t.invariant.3 k read.0 read.1 read.2),
       λ e. absurd (let z : ◌≡◌ {A = ℕ} 0 1 = cc in let o : ⊥ = omega arith in o),
     )
 
-enum-known-next : tie.Need-enum-known-next invariant-loop decreases-loop
+enum-known-next : tie.Need-enum_known-next invariant-loop decreases-loop
 enum-known-next c = search rules
 
-halved-requires : tie.Need-halved-requires invariant-loop decreases-loop
+halved-requires : tie.Need-halved-table-requires invariant-loop decreases-loop
 halved-requires c κs = tt
 
-abbrev In : tie.After-halved invariant-loop decreases-loop → tie.In-loop invariant-loop decreases-loop
-In c = c.before.before.before.before.before.before.before.before.before
+abbrev In : tie.After-halved-table invariant-loop decreases-loop → tie.In-loop-t invariant-loop decreases-loop
+In c = c.before.before.before.before.before.before.before
 
-add-t : tie.Need-overflow-add-t invariant-loop decreases-loop
-add-t c = omega (arith, (In c).loop-test.true)
+add-t : tie.Need-overflow_step-t invariant-loop decreases-loop
+add-t c = omega (arith, (In c).loop-t-test.true)
 
-loop-less : tie.Need-loop-smaller invariant-loop decreases-loop
-loop-less c = omega (arith, (In c).loop-test.true)
+loop-less : tie.Need-loop-t-smaller invariant-loop decreases-loop
+loop-less c = omega (arith, (In c).loop-t-test.true)
 
-loop-again : tie.Need-loop-preserved invariant-loop decreases-loop
+loop-again : tie.Need-loop-t-preserved invariant-loop decreases-loop
 loop-again c =
     let i = In c in
     let l = i.before in
     let s = S l in
-    let t = l.loop.t in
+    let t = l.loop-t.t in
     let bs = s.args.bytes.now in
-    let q = c.before.before.before.before.before.before in
-    let read : PlaceRead (H s) s.args.at bs (plan s) (places_most - 1 - t) (Placed.Fine c.before.before.next.given.0.0) (left q) =
-    subst (λ (r : Placed). PlaceRead (H s) s.args.at bs (plan s) (places_most - 1 - t) r (left q)) c.before.before.next.given.1 q.load-place.ensures in
+    let q = c.before.before.before.before in
+    let read : PlaceRead (H s) s.args.at bs (plan s) (places_most - 1 - t) (Placed.Fine c.in-Fine.next) (left q) =
+    subst (λ (r : Placed). PlaceRead (H s) s.args.at bs (plan s) (places_most - 1 - t) r (left q)) c.in-Fine.is q.load_place.ensures in
     let all : t * K s + K s ≡ (t + 1) * K s = omega arith in (
-      omega (arith, i.loop-test.taken),
-      λ m. c.halved.ensures ∙ ap halved (l.loop.inv.1 (omega arith) ∙ ap halves (let down : places_most - 1 - t ≡ suc (places_most - 1 - (t + 1)) = omega arith in down)) ∙ halves-down (places_most - 1 - (t + 1)),
+      omega (arith, i.loop-t-test.true),
+      λ m. c.halved-table.ensures ∙ ap halved (l.loop-t.invariant.1 (omega arith) ∙ ap halves (let down : places_most - 1 - t ≡ suc (places_most - 1 - (t + 1)) = omega arith in down)) ∙ halves-down (places_most - 1 - (t + 1)),
       λ m. read.0.0 ∙ cells-down (H s) t m,
-      fine-on (H s) s.args.at bs (plan s) t i.loop-test.taken l.loop.inv.3 read.0.1,
-      rw (slot-behind (H s) t i.loop-test.taken (K s) ∙ all) at read.1,
+      fine-on (H s) s.args.at bs (plan s) t i.loop-t-test.true l.loop-t.invariant.3 read.0.1,
+      rw (slot-behind (H s) t i.loop-t-test.true (K s) ∙ all) at read.1,
     )
 
-same-length-2 : tie.Need-same-length-2 invariant-loop decreases-loop
-same-length-2 c = c.before.loop.invariant.4.long_is ∙ sym (none (S c.before)).long_is
+same-length-2 : tie.Need-shape_of-words invariant-loop decreases-loop
+same-length-2 c = c.before.loop-t.invariant.4.long_is ∙ sym (none (S c.before)).long_is
 
-returns-2 : tie.Need-returns-2 invariant-loop decreases-loop
+returns-2 : tie.Need-returns invariant-loop decreases-loop
 returns-2 c =
     let l = c.before in
     let s = S l in
     let bs = s.args.bytes.now in
-    let e : l.loop.t ≡ places_most = omega (arith, c.loop-test.false, l.loop.invariant.0) in (
-      sym (none_is (H s) s.args.at bs (plan s) (λ u m. l.loop.invariant.3 u (rw e m))),
-      λ _. partly-all (H s) s.args.at bs (plan s) l.loop.words (rw e at l.loop.invariant.4),
+    let e : l.loop-t.t ≡ places_most = omega (arith, c.loop-t-test.false, l.loop-t.invariant.0) in (
+      sym (none_is (H s) s.args.at bs (plan s) (λ u m. l.loop-t.invariant.3 u (rw e m))),
+      λ _. partly-all (H s) s.args.at bs (plan s) l.loop-t.words (rw e at l.loop-t.invariant.4),
     )
 
-pub load-body-spec : {M : Type 1} → statement M
-load-body-spec =
+pub load_body_spec : {M : Type 1} → statement M
+load_body_spec =
     tie.close
     (tie.spec
     invariant-loop

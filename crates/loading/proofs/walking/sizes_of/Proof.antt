@@ -8,47 +8,36 @@ use Rattle.header.proofs.Fills.{Filled, filled_none, filled_more, filled-all}
 use Rattle.loading.proofs.walking.sizes_of.Statement.{statement}
 use Rattle.loading.proofs.walking.sizes_of.Tie as tie
 
-abbrev invariant-loop : tie.invariant-loop
+abbrev invariant-loop : tie.invariant-loop-k
 invariant-loop shape sizes₀ k₀ sizes k = (k ≤ layers_most) × Filled 0 (size_at shape) layers_most k sizes
 
-abbrev decreases-loop : tie.decreases-loop
+abbrev decreases-loop : tie.decreases-loop-k
 decreases-loop shape sizes₀ k₀ sizes k = layers_most - k
 
-loop-holds : tie.Need-loop-init invariant-loop decreases-loop
+loop-holds : tie.Need-loop-k-init invariant-loop decreases-loop
 loop-holds c = (omega arith, filled_none _ _ _ refl)
 
-layer-size-requires : tie.Need-layer-size-requires invariant-loop decreases-loop
+layer-size-requires : tie.Need-layer_size-requires invariant-loop decreases-loop
 layer-size-requires c κs = tt
 
-mul-sizes : tie.Need-overflow-mul-sizes invariant-loop decreases-loop
+mul-sizes : tie.Need-offset_bounds-sizes-k invariant-loop decreases-loop
 mul-sizes c = omega arith
 
-array-write-sizes : tie.Need-array-write-sizes invariant-loop decreases-loop
+array-write-sizes : tie.Need-bounds-sizes-k invariant-loop decreases-loop
 array-write-sizes c = omega arith
 
-add-k : tie.Need-overflow-add-k invariant-loop decreases-loop
+add-k : tie.Need-overflow_step-k invariant-loop decreases-loop
 add-k c = omega arith
 
-loop-less : tie.Need-loop-smaller invariant-loop decreases-loop
+loop-less : tie.Need-loop-k-smaller invariant-loop decreases-loop
 loop-less c = omega arith
 
-loop-again : tie.Need-loop-preserved invariant-loop decreases-loop
-loop-again c = (omega arith, filled_more _ _ _ c.layer-size.ensures c.before.loop-test.true c.before.before.loop.invariant.1)
+loop-again : tie.Need-loop-k-preserved invariant-loop decreases-loop
+loop-again c = (omega arith, filled_more _ _ _ c.layer_size.ensures c.before.loop-k-test.true c.before.before.loop-k.invariant.1)
 
 returns : tie.Need-returns invariant-loop decreases-loop
-returns c = filled-all _ _ c.loop-test.false c.before.loop.invariant.1
+returns c = filled-all _ _ c.loop-k-test.false c.before.loop-k.invariant.1
 
-pub sizes-of-spec : {M : Type 1} → statement M
-sizes-of-spec =
-    tie.close
-    (tie.spec
-    invariant-loop
-    decreases-loop
-    loop-holds
-    layer-size-requires
-    mul-sizes
-    array-write-sizes
-    add-k
-    loop-less
-    loop-again
-    returns)
+pub sizes_of_spec : {M : Type 1} → statement M
+sizes_of_spec =
+    tie.close (tie.spec invariant-loop decreases-loop loop-holds layer-size-requires mul-sizes array-write-sizes add-k loop-less loop-again returns)

@@ -23,15 +23,15 @@ use Rattle.header.proofs.Laid.{laid-put}
 use Rattle.packing.proofs.measuring.measure_layers.Statement.{statement}
 use Rattle.packing.proofs.measuring.measure_layers.Tie as tie
 
-abbrev invariant-loop : tie.invariant-loop
+abbrev invariant-loop : tie.invariant-loop-k
 invariant-loop words shape table₀ planes layers start₀ to₀ k₀ table start to k =
     (k ≤ layers) × (start ≡ block_start shape k) × (to ≡ total (λ k. get_or planes k 0) k) × (table ≡ sets table₀ 0 (laid (measured_at shape words) (λ k. get_or planes k 0) k))
 
-abbrev decreases-loop : tie.decreases-loop
+abbrev decreases-loop : tie.decreases-loop-k
 decreases-loop words shape table₀ planes layers start₀ to₀ k₀ table start to k = layers - k
 
 abbrev L : Type 0
-L = tie.At-loop invariant-loop decreases-loop
+L = tie.At-loop-k invariant-loop decreases-loop
 
 abbrev Z : Type 0
 Z = tie.Start invariant-loop decreases-loop
@@ -43,135 +43,135 @@ abbrev Sh : L → Shape
 Sh l = (S l).args.shape
 
 abbrev Cs : Z → ℕ → ℕ
-Cs s k = get_or s.args.t3 k 0
+Cs s k = get_or s.args.planes k 0
 
 abbrev F : Z → ℕ → ℕ → ℕ
 F s = measured_at s.args.shape s.args.words.now
 
 yes : (l : L) → accepted (Sh l) ≡ true
-yes l = (S l).pre.0.0
+yes l = (S l).requires.0.0
 
 few : (l : L) → layers (Sh l) ≤ layers_most
 few l = layers-few (Sh l) (accepted-yes (Sh l) (yes l))
 
-count : (l : L) → l.before.layer-count.result ≡ layers (Sh l)
-count l = l.before.layer-count.ensures ∙ count-is (Sh l) (yes l)
+count : (l : L) → l.before.layer_count-layers.result ≡ layers (Sh l)
+count l = l.before.layer_count-layers.ensures ∙ count-is (Sh l) (yes l)
 
 abbrev In : Type 0
-In = tie.In-loop invariant-loop decreases-loop
+In = tie.In-loop-k invariant-loop decreases-loop
 
-below : (i : In) → i.before.loop.k < layers (Sh i.before)
-below i = omega (arith, i.loop-test.true, count i.before)
+below : (i : In) → i.before.loop-k.k < layers (Sh i.before)
+below i = omega (arith, i.loop-k-test.true, count i.before)
 
-within : (i : In) → i.before.loop.k < layers_most
+within : (i : In) → i.before.loop-k.k < layers_most
 within i = omega (arith, below i, few i.before)
 
-same : (l : L) → length l.loop.table ≡ length (S l).args.table.now
-same l = ap length l.loop.inv.3 ∙ length-sets (S l).args.table.now 0 (laid (F (S l)) (Cs (S l)) l.loop.k)
+same : (l : L) → length l.loop-k.table ≡ length (S l).args.table.now
+same l = ap length l.loop-k.invariant.3 ∙ length-sets (S l).args.table.now 0 (laid (F (S l)) (Cs (S l)) l.loop-k.k)
 
 -- one layer more still fits
-room : (i : In) → (let l = i.before in (l.loop.to + Cs (S l) l.loop.k ≡ total (Cs (S l)) (l.loop.k + 1)) × (l.loop.to + Cs (S l) l.loop.k ≤ losses_most))
+room : (i : In) → (let l = i.before in (l.loop-k.to + Cs (S l) l.loop-k.k ≡ total (Cs (S l)) (l.loop-k.k + 1)) × (l.loop-k.to + Cs (S l) l.loop-k.k ≤ losses_most))
 room i =
     let l = i.before in
-    let k = l.loop.k in
+    let k = l.loop-k.k in
     let cs = Cs (S l) in
-    let e : l.loop.to + cs k ≡ total cs (k + 1) = rw (add-one k) (omega (arith, l.loop.invariant.2, total-suc cs k)) in
+    let e : l.loop-k.to + cs k ≡ total cs (k + 1) = rw (add-one k) (omega (arith, l.loop-k.invariant.2, total-suc cs k)) in
     let most = total-most cs places_most (k + 1) (λ j h. (S l).requires.1.0 j (omega (arith, within i))) in
     (e, omega (arith, e, most, within i))
 
-layer-count-requires : tie.Need-layer-count-requires invariant-loop decreases-loop
+layer-count-requires : tie.Need-layer_count-layers-requires invariant-loop decreases-loop
 layer-count-requires c κs = search rules
 
-loop-holds : tie.Need-loop-init invariant-loop decreases-loop
+loop-holds : tie.Need-loop-k-init invariant-loop decreases-loop
 unfolding total laid
 loop-holds c = (omega arith, omega (arith, block_none c.before.before.before.args.shape), refl, refl)
 
-layer-size-requires : tie.Need-layer-size-requires invariant-loop decreases-loop
+layer-size-requires : tie.Need-layer_size-requires invariant-loop decreases-loop
 layer-size-requires c κs = search rules
 
-mul-measure-layer : tie.Need-overflow-mul-measure-layer invariant-loop decreases-loop
+mul-measure-layer : tie.Need-offset_bounds-planes-k invariant-loop decreases-loop
 mul-measure-layer c = omega (arith, within c.before)
 
-array-read-measure-layer : tie.Need-array-read-measure-layer invariant-loop decreases-loop
+array-read-measure-layer : tie.Need-bounds-planes-k invariant-loop decreases-loop
 array-read-measure-layer c = within c.before
 
-size_is : (c : tie.After-layer-size invariant-loop decreases-loop) → c.layer-size.result ≡ layer_size (Sh c.before.before) c.before.before.loop.k
+size_is : (c : tie.After-layer_size invariant-loop decreases-loop) → c.layer_size.result ≡ layer_size (Sh c.before.before) c.before.before.loop-k.k
 size_is c =
     let l = c.before.before in
-    c.layer-size.ensures ∙ size-there (Sh l) (yes l) l.loop.k (below c.before)
+    c.layer_size.ensures ∙ size-there (Sh l) (yes l) l.loop-k.k (below c.before)
 
 -- the block of layer k
-at_block : (c : tie.After-layer-size invariant-loop decreases-loop) → (let l = c.before.before in Block (S l).args.words.now l.loop.start c.layer-size.result)
+at_block : (c : tie.After-layer_size invariant-loop decreases-loop) → (let l = c.before.before in Block (S l).args.words.now l.loop-k.start c.layer_size.result)
 at_block c =
     let l = c.before.before in
-    block_at (S l).args.words.now l.loop.invariant.1 (size_is c) ((S l).requires.1.1 l.loop.k (below c.before))
+    block_at (S l).args.words.now l.loop-k.invariant.1 (size_is c) ((S l).requires.1.1 l.loop-k.k (below c.before))
 
-measure-layer-requires : tie.Need-measure-layer-requires invariant-loop decreases-loop
+measure-layer-requires : tie.Need-measure_layer-requires invariant-loop decreases-loop
 measure-layer-requires c κs =
     let i = c.before.before in
     let l = i.before in
-    (at_block c.before, ((S l).requires.1.0 l.loop.k (within i), omega (arith, (room i).1, same l, (S l).requires.0.2)))
+    (at_block c.before, ((S l).requires.1.0 l.loop-k.k (within i), omega (arith, (room i).1, same l, (S l).requires.0.2)))
 
-mul-to : tie.Need-overflow-mul-to invariant-loop decreases-loop
+mul-to : tie.Need-offset_bounds-planes-k-in-loop-k invariant-loop decreases-loop
 mul-to c = omega (arith, within c.before.before.before.before.before)
 
-array-read-to : tie.Need-array-read-to invariant-loop decreases-loop
+array-read-to : tie.Need-bounds-planes-k-in-loop-k invariant-loop decreases-loop
 array-read-to c = within c.before.before.before.before.before
 
-add-to : tie.Need-overflow-add-to invariant-loop decreases-loop
+add-to : tie.Need-overflow_add-to invariant-loop decreases-loop
 add-to c = omega (arith, (room c.before.before.before.before.before).1)
 
-plane-cells-requires : tie.Need-plane-cells-requires invariant-loop decreases-loop
+plane-cells-requires : tie.Need-plane_cells-requires invariant-loop decreases-loop
 plane-cells-requires c κs = search rules
 
 -- a turn
 abbrev C : Type 0
-C = tie.After-plane-cells invariant-loop decreases-loop
+C = tie.After-plane_cells invariant-loop decreases-loop
 
 abbrev I : C → In
 I c = c.before.before.before.before.before.before
 
-cells : (c : C) → (let l = (I c).before in (l.loop.start + cell_points * c.plane-cells.result ≡ block_start (Sh l) (l.loop.k + 1)) × (l.loop.start + cell_points * c.plane-cells.result ≤ words_most))
+cells : (c : C) → (let l = (I c).before in (l.loop-k.start + cell_points * c.plane_cells.result ≡ block_start (Sh l) (l.loop-k.k + 1)) × (l.loop-k.start + cell_points * c.plane_cells.result ≤ words_most))
 cells c =
     let l = (I c).before in
-    let k = l.loop.k in
+    let k = l.loop-k.k in
     let h = below (I c) in
-    omega (arith, l.loop.inv.1, c.plane-cells.ensures, cells-there (Sh l) (yes l) k h, block-next (Sh l) k, block_room (Sh l) (yes l) k h)
+    omega (arith, l.loop-k.invariant.1, c.plane_cells.ensures, cells-there (Sh l) (yes l) k h, block-next (Sh l) k, block_room (Sh l) (yes l) k h)
 
-mul-start : tie.Need-overflow-mul-start invariant-loop decreases-loop
+mul-start : tie.Need-overflow_mul-start invariant-loop decreases-loop
 mul-start c = omega (arith, (cells c).1)
 
-add_start : tie.Need-overflow-add-start invariant-loop decreases-loop
+add_start : tie.Need-overflow_add-start invariant-loop decreases-loop
 add_start c = omega (arith, (cells c).1)
 
-add-k : tie.Need-overflow-add-k invariant-loop decreases-loop
+add-k : tie.Need-overflow_step-k invariant-loop decreases-loop
 add-k c = omega (arith, within (I c))
 
-loop-less : tie.Need-loop-smaller invariant-loop decreases-loop
-loop-less c = omega (arith, (I c).loop-test.true)
+loop-less : tie.Need-loop-k-smaller invariant-loop decreases-loop
+loop-less c = omega (arith, (I c).loop-k-test.true)
 
-loop-again : tie.Need-loop-preserved invariant-loop decreases-loop
+loop-again : tie.Need-loop-k-preserved invariant-loop decreases-loop
 loop-again c =
     let i = I c in
     let l = i.before in
     let s = S l in
-    let k = l.loop.k in
+    let k = l.loop-k.k in
     let m = c.before.before.before in
-    let e = m.measure-layer.ensures ∙ ap₂ (λ (start n : ℕ). sets l.loop.table l.loop.to (tabulate (Cs s k) (λ j. measured s.args.words.now start n (suc j)))) l.loop.inv.1 (size_is m.before.before) in
-    (omega (arith, i.loop-test.taken), (cells c).0, (room i).0, laid-put (Cs s) (F s) s.args.table.now l.loop.table _ l.loop.to k l.loop.inv.2 l.loop.inv.3 e)
+    let e = m.measure_layer.ensures ∙ ap₂ (λ (start n : ℕ). sets l.loop-k.table l.loop-k.to (tabulate (Cs s k) (λ j. measured s.args.words.now start n (suc j)))) l.loop-k.invariant.1 (size_is m.before.before) in
+    (omega (arith, i.loop-k-test.true), (cells c).0, (room i).0, laid-put (Cs s) (F s) s.args.table.now l.loop-k.table _ l.loop-k.to k l.loop-k.invariant.2 l.loop-k.invariant.3 e)
 
-same_length : tie.Need-same-length invariant-loop decreases-loop
+same_length : tie.Need-shape_of-table invariant-loop decreases-loop
 same_length c = same c.before
 
 returns : tie.Need-returns invariant-loop decreases-loop
 returns c =
     let l = c.before in
     let s = S l in
-    let e : l.loop.k ≡ layers (Sh l) = omega (arith, c.loop-test.false, count l) in
-    (l.loop.invariant.2 ∙ ap (total (Cs s)) e, l.loop.invariant.3 ∙ ap (λ (k : ℕ). sets s.args.table.now 0 (laid (F s) (Cs s) k)) e)
+    let e : l.loop-k.k ≡ layers (Sh l) = omega (arith, c.loop-k-test.false, count l) in
+    (l.loop-k.invariant.2 ∙ ap (total (Cs s)) e, l.loop-k.invariant.3 ∙ ap (λ (k : ℕ). sets s.args.table.now 0 (laid (F s) (Cs s) k)) e)
 
-pub measure-layers-spec : {M : Type 1} → statement M
-measure-layers-spec =
+pub measure_layers_spec : {M : Type 1} → statement M
+measure_layers_spec =
     tie.close
     (tie.spec
     invariant-loop

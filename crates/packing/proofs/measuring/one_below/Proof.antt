@@ -7,11 +7,12 @@ use Rattle.packing.proofs.measuring.one_below.Tie as tie
 below-requires : tie.Need-below-requires
 below-requires c κs = search rules
 
-returns : tie.Need-returns
-returns c = rw (sym c.before.below.ensures ∙ c.if1.true)
+returns : tie.Need-returns-then-below
+returns c = rw (sym c.before.below.ensures ∙ c.if-below.true)
 
-returns-2 : tie.Need-returns-2
-returns-2 c = rw (sym c.before.below.ensures ∙ c.if1.false)
+returns-2 : tie.Need-returns-else-below
+returns-2 c = rw (sym c.before.below.ensures ∙ c.if-below.false)
 
-pub one-below-spec : {M : Type 1} → statement M
-one-below-spec = tie.close (tie.spec below-requires returns returns-2)
+pub one_below_spec : {M : Type 1} → statement M
+one_below_spec =
+    tie.close (tie.spec below-requires returns returns-2)

@@ -26,88 +26,78 @@ Left h ws d at out left to =
 from-top : (h : Header) (ws d : List ℕ) (at left : ℕ) → left ≡ places_most → Left h ws d at d left at
 from-top h ws d at left e = rw e (omega arith, refl, refl, refl)
 
-abbrev invariant-loop : tie.invariant-loop
+abbrev invariant-loop : tie.invariant-loop-left
 invariant-loop words header out₀ at left₀ to₀ out left to = Left header words out₀ at out left to
 
-abbrev decreases-loop : tie.decreases-loop
+abbrev decreases-loop : tie.decreases-loop-left
 decreases-loop words header out₀ at left₀ to₀ out left to = left
 
-abbrev S : tie.At-loop invariant-loop decreases-loop → tie.Start invariant-loop decreases-loop
+abbrev S : tie.At-loop-left invariant-loop decreases-loop → tie.Start invariant-loop decreases-loop
 S l = l.before.before.before
 
 abbrev H : tie.Start invariant-loop decreases-loop → Header
 H s = s.args.header
 
-abbrev Places : tie.At-loop invariant-loop decreases-loop → ℕ → List ℕ
+abbrev Places : tie.At-loop-left invariant-loop decreases-loop → ℕ → List ℕ
 Places l n = down_from (H (S l)) (row_plane (H (S l)).shape (S l).args.rows.now) n
 
 -- the planes of the next place, and those below it
-next : tie.At-loop invariant-loop decreases-loop → List ℕ
-next l = at_place (H (S l)) (row_plane (H (S l)).shape (S l).args.rows.now) (l.loop.left - 1) (layers (H (S l)).shape)
+next : tie.At-loop-left invariant-loop decreases-loop → List ℕ
+next l = at_place (H (S l)) (row_plane (H (S l)).shape (S l).args.rows.now) (l.loop-left.left - 1) (layers (H (S l)).shape)
 
-split : (l : tie.At-loop invariant-loop decreases-loop) → 0 < l.loop.left → Places l l.loop.left ≡ next l ++ Places l (l.loop.left - 1)
+split : (l : tie.At-loop-left invariant-loop decreases-loop) → 0 < l.loop-left.left → Places l l.loop-left.left ≡ next l ++ Places l (l.loop-left.left - 1)
 unfolding next
 split l h =
-    let e : l.loop.left ≡ suc (l.loop.left - 1) = omega arith in
-    ap (Places l) e ∙ down-more (H (S l)) (row_plane (H (S l)).shape (S l).args.rows.now) (l.loop.left - 1)
+    let e : l.loop-left.left ≡ suc (l.loop-left.left - 1) = omega arith in
+    ap (Places l) e ∙ down-more (H (S l)) (row_plane (H (S l)).shape (S l).args.rows.now) (l.loop-left.left - 1)
 
-split-length : (l : tie.At-loop invariant-loop decreases-loop) → 0 < l.loop.left → length (Places l l.loop.left) ≡ length (next l) + length (Places l (l.loop.left - 1))
-split-length l h = ap length (split l h) ∙ length-append (next l) (Places l (l.loop.left - 1))
+split-length : (l : tie.At-loop-left invariant-loop decreases-loop) → 0 < l.loop-left.left → length (Places l l.loop-left.left) ≡ length (next l) + length (Places l (l.loop-left.left - 1))
+split-length l h = ap length (split l h) ∙ length-append (next l) (Places l (l.loop-left.left - 1))
 
-loop-holds : tie.Need-loop-init invariant-loop decreases-loop
+loop-holds : tie.Need-loop-left-init invariant-loop decreases-loop
 loop-holds c = let s = c.before.before in
     from-top (H s) s.args.rows.now s.args.out.now s.args.at _ (omega arith)
 
-sub-left : tie.Need-overflow-sub-left invariant-loop decreases-loop
+sub-left : tie.Need-overflow_sub-left invariant-loop decreases-loop
 sub-left c = omega arith
 
-put-place-requires : tie.Need-put-place-requires invariant-loop decreases-loop
+put-place-requires : tie.Need-put_place-to-requires invariant-loop decreases-loop
 unfolding next
 put-place-requires c κs = let l = c.before.before in
     let s = S l in (
-      (s.pre.0.0, omega arith, s.pre.0.1),
-      omega (arith, s.pre.1, l.loop.invariant.1, l.loop.invariant.2, split-length l c.before.loop-test.true),
+      (s.requires.0.0, omega arith, s.requires.0.1),
+      omega (arith, s.requires.1, l.loop-left.invariant.1, l.loop-left.invariant.2, split-length l c.before.loop-left-test.true),
     )
 
-loop-less : tie.Need-loop-smaller invariant-loop decreases-loop
+loop-less : tie.Need-loop-left-smaller invariant-loop decreases-loop
 loop-less c = omega arith
 
-loop-again : tie.Need-loop-preserved invariant-loop decreases-loop
+loop-again : tie.Need-loop-left-preserved invariant-loop decreases-loop
 unfolding next
 loop-again c = let a = c.before.before in
     let l = a.before.before.before in
     let s = S l in
-    let h : 0 < l.loop.left = a.before.before.loop-test.true in (
+    let h : 0 < l.loop-left.left = a.before.before.loop-left-test.true in (
       omega arith,
-      ap length a.put-place.ensures.1 ∙ length-sets l.loop.out l.loop.to (next l) ∙ l.loop.invariant.1,
-      omega (arith, a.put-place.ensures.0, l.loop.invariant.2, split-length l h),
-      ap₂ (λ (o : List ℕ) (n : ℕ). sets o n (Places l (l.loop.left - 1))) a.put-place.ensures.1 a.put-place.ensures.0
-          ∙ sets-sets l.loop.out l.loop.to (next l) (Places l (l.loop.left - 1))
-          ∙ ap (sets l.loop.out l.loop.to) (sym (split l h))
-          ∙ l.loop.invariant.3,
+      ap length a.put_place-to.ensures.1 ∙ length-sets l.loop-left.out l.loop-left.to (next l) ∙ l.loop-left.invariant.1,
+      omega (arith, a.put_place-to.ensures.0, l.loop-left.invariant.2, split-length l h),
+      ap₂ (λ (o : List ℕ) (n : ℕ). sets o n (Places l (l.loop-left.left - 1))) a.put_place-to.ensures.1 a.put_place-to.ensures.0
+          ∙ sets-sets l.loop-left.out l.loop-left.to (next l) (Places l (l.loop-left.left - 1))
+          ∙ ap (sets l.loop-left.out l.loop-left.to) (sym (split l h))
+          ∙ l.loop-left.invariant.3,
     )
 
-same_length : tie.Need-same-length invariant-loop decreases-loop
-same_length c = c.before.loop.invariant.1
+same_length : tie.Need-shape_of-out invariant-loop decreases-loop
+same_length c = c.before.loop-left.invariant.1
 
 returns : tie.Need-returns invariant-loop decreases-loop
 unfolding down_from
 returns c = let l = c.before in
     let s = S l in
-    let none : l.loop.left ≡ 0 = omega arith in
-    let e : Places l l.loop.left ≡ [] = ap (Places l) none in
-    (omega (arith, l.loop.invariant.2, ap length e), sym (ap (sets l.loop.out l.loop.to) e) ∙ l.loop.invariant.3)
+    let none : l.loop-left.left ≡ 0 = omega arith in
+    let e : Places l l.loop-left.left ≡ [] = ap (Places l) none in
+    (omega (arith, l.loop-left.invariant.2, ap length e), sym (ap (sets l.loop-left.out l.loop-left.to) e) ∙ l.loop-left.invariant.3)
 
-pub put-body-spec : {M : Type 1} → statement M
-put-body-spec =
-    tie.close
-    (tie.spec
-    invariant-loop
-    decreases-loop
-    loop-holds
-    sub-left
-    put-place-requires
-    loop-less
-    loop-again
-    same_length
-    returns)
+pub put_body_spec : {M : Type 1} → statement M
+put_body_spec =
+    tie.close (tie.spec invariant-loop decreases-loop loop-holds sub-left put-place-requires loop-less loop-again same_length returns)

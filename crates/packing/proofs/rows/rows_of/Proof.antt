@@ -5,28 +5,28 @@ use borrow.Author.Rules.{rules}
 use Rattle.packing.proofs.rows.rows_of.Statement.{statement}
 use Rattle.packing.proofs.rows.rows_of.Tie as tie
 
-row-of-requires : tie.Need-row-of-requires
+row-of-requires : tie.Need-row_of-requires
 row-of-requires c κs = search rules
 
-row-of-requires-2 : tie.Need-row-of-requires-2
+row-of-requires-2 : tie.Need-row_of-requires-2
 row-of-requires-2 c κs = search rules
 
-row-of-requires-3 : tie.Need-row-of-requires-3
+row-of-requires-3 : tie.Need-row_of-requires-3
 row-of-requires-3 c κs = search rules
 
-row-of-requires-4 : tie.Need-row-of-requires-4
+row-of-requires-4 : tie.Need-row_of-requires-4
 row-of-requires-4 c κs = search rules
 
-row-of-requires-5 : tie.Need-row-of-requires-5
+row-of-requires-5 : tie.Need-row_of-requires-5
 row-of-requires-5 c κs = search rules
 
-row-of-requires-6 : tie.Need-row-of-requires-6
+row-of-requires-6 : tie.Need-row_of-requires-6
 row-of-requires-6 c κs = search rules
 
-row-of-requires-7 : tie.Need-row-of-requires-7
+row-of-requires-7 : tie.Need-row_of-requires-7
 row-of-requires-7 c κs = search rules
 
-row-of-requires-8 : tie.Need-row-of-requires-8
+row-of-requires-8 : tie.Need-row_of-requires-8
 row-of-requires-8 c κs = search rules
 
 returns : tie.Need-returns
@@ -39,10 +39,10 @@ returns c =
     let c3 = c4.before in
     let c2 = c3.before in
     let c1 = c2.before in
-    λ t. c1.row_of.ensures t ∷ c2.row-of2.ensures t ∷ c3.row-of3.ensures t ∷ c4.row-of4.ensures t ∷ c5.row-of5.ensures t ∷ c6.row-of6.ensures t ∷ c7.row-of7.ensures t ∷ c.row-of8.ensures t ∷ []
+    λ t. c1.row_of.ensures t ∷ c2.row_of-2.ensures t ∷ c3.row_of-3.ensures t ∷ c4.row_of-4.ensures t ∷ c5.row_of-5.ensures t ∷ c6.row_of-6.ensures t ∷ c7.row_of-7.ensures t ∷ c.row_of-8.ensures t ∷ []
 
-pub rows-of-spec : {M : Type 1} → statement M
-rows-of-spec =
+pub rows_of_spec : {M : Type 1} → statement M
+rows_of_spec =
     tie.close
     (tie.spec
     row-of-requires

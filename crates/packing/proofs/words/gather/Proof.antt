@@ -20,14 +20,14 @@ use Rattle.packing.proofs.Gathers.{GatheredTo, gathered_none, gathered-more, gat
 use Rattle.packing.proofs.words.gather.Statement.{statement}
 use Rattle.packing.proofs.words.gather.Tie as tie
 
-abbrev invariant-loop : tie.invariant-loop
+abbrev invariant-loop : tie.invariant-loop-k
 invariant-loop coefficients shape words₀ layers start₀ k₀ words start k = (k ≤ layers) × (start ≡ block_start shape k) × GatheredTo shape coefficients k words
 
-abbrev decreases-loop : tie.decreases-loop
+abbrev decreases-loop : tie.decreases-loop-k
 decreases-loop coefficients shape words₀ layers start₀ k₀ words start k = layers - k
 
 abbrev L : Type 0
-L = tie.At-loop invariant-loop decreases-loop
+L = tie.At-loop-k invariant-loop decreases-loop
 
 abbrev S : L → tie.Start invariant-loop decreases-loop
 S l = l.before.before.before
@@ -39,83 +39,83 @@ abbrev Qs : L → List ℤ
 Qs l = (S l).args.coefficients.now
 
 yes : (l : L) → accepted (Sh l) ≡ true
-yes l = (S l).pre.0.0
+yes l = (S l).requires.0.0
 
 few : (l : L) → layers (Sh l) ≤ layers_most
 few l = layers-few (Sh l) (accepted-yes (Sh l) (yes l))
 
-count : (l : L) → l.before.layer-count.result ≡ layers (Sh l)
-count l = l.before.layer-count.ensures ∙ count-is (Sh l) (yes l)
+count : (l : L) → l.before.layer_count-layers.result ≡ layers (Sh l)
+count l = l.before.layer_count-layers.ensures ∙ count-is (Sh l) (yes l)
 
-below : (i : tie.In-loop invariant-loop decreases-loop) → i.before.loop.k < layers (Sh i.before)
-below i = omega (arith, i.loop-test.true, count i.before)
+below : (i : tie.In-loop-k invariant-loop decreases-loop) → i.before.loop-k.k < layers (Sh i.before)
+below i = omega (arith, i.loop-k-test.true, count i.before)
 
-layer-count-requires : tie.Need-layer-count-requires invariant-loop decreases-loop
+layer-count-requires : tie.Need-layer_count-layers-requires invariant-loop decreases-loop
 layer-count-requires c κs = search rules
 
-loop-holds : tie.Need-loop-init invariant-loop decreases-loop
+loop-holds : tie.Need-loop-k-init invariant-loop decreases-loop
 loop-holds c =
     let s = c.before.before in
     (omega arith, omega (arith, block_none s.args.shape), gathered_none s.args.shape s.args.coefficients.now s.args.words.now s.requires.1)
 
-gather-layer-requires : tie.Need-gather-layer-requires invariant-loop decreases-loop
+gather-layer-requires : tie.Need-gather_layer-requires invariant-loop decreases-loop
 gather-layer-requires c κs =
     let l = c.before.before in
-    ((yes l, below c.before), ((S l).requires.0.1, omega (arith, layer-room (Sh l) (yes l) l.loop.k (below c.before), l.loop.invariant.1, l.loop.invariant.2.long)))
+    ((yes l, below c.before), ((S l).requires.0.1, omega (arith, layer-room (Sh l) (yes l) l.loop-k.k (below c.before), l.loop-k.invariant.1, l.loop-k.invariant.2.long)))
 
-plane-cells-requires : tie.Need-plane-cells-requires invariant-loop decreases-loop
+plane-cells-requires : tie.Need-plane_cells-requires invariant-loop decreases-loop
 plane-cells-requires c κs = search rules
 
 -- a turn
 abbrev C : Type 0
-C = tie.After-plane-cells invariant-loop decreases-loop
+C = tie.After-plane_cells invariant-loop decreases-loop
 
-abbrev In : C → tie.In-loop invariant-loop decreases-loop
+abbrev In : C → tie.In-loop-k invariant-loop decreases-loop
 In c = c.before.before.before.before.before
 
 abbrev Lp : C → L
 Lp c = (In c).before
 
-cells : (c : C) → (let l = Lp c in (l.loop.start + cell_points * c.plane-cells.result ≡ block_start (Sh l) (l.loop.k + 1)) × (l.loop.start + cell_points * c.plane-cells.result ≤ words_most))
+cells : (c : C) → (let l = Lp c in (l.loop-k.start + cell_points * c.plane_cells.result ≡ block_start (Sh l) (l.loop-k.k + 1)) × (l.loop-k.start + cell_points * c.plane_cells.result ≤ words_most))
 cells c =
     let l = Lp c in
-    let k = l.loop.k in
+    let k = l.loop-k.k in
     let h = below (In c) in
-    omega (arith, l.loop.inv.1, c.plane-cells.ensures, cells-there (Sh l) (yes l) k h, block-next (Sh l) k, block_room (Sh l) (yes l) k h)
+    omega (arith, l.loop-k.invariant.1, c.plane_cells.ensures, cells-there (Sh l) (yes l) k h, block-next (Sh l) k, block_room (Sh l) (yes l) k h)
 
-mul-start : tie.Need-overflow-mul-start invariant-loop decreases-loop
+mul-start : tie.Need-overflow_mul-start invariant-loop decreases-loop
 mul-start c = omega (arith, (cells c).1)
 
-add_start : tie.Need-overflow-add-start invariant-loop decreases-loop
+add_start : tie.Need-overflow_add-start invariant-loop decreases-loop
 add_start c = omega (arith, (cells c).1)
 
-add-k : tie.Need-overflow-add-k invariant-loop decreases-loop
+add-k : tie.Need-overflow_step-k invariant-loop decreases-loop
 add-k c = omega (arith, below (In c), few (Lp c))
 
-loop-less : tie.Need-loop-smaller invariant-loop decreases-loop
-loop-less c = omega (arith, (In c).loop-test.true)
+loop-less : tie.Need-loop-k-smaller invariant-loop decreases-loop
+loop-less c = omega (arith, (In c).loop-k-test.true)
 
-loop-again : tie.Need-loop-preserved invariant-loop decreases-loop
+loop-again : tie.Need-loop-k-preserved invariant-loop decreases-loop
 loop-again c =
     let l = Lp c in
-    let k = l.loop.k in
+    let k = l.loop-k.k in
     let h = below (In c) in
-    let e = c.before.before.before.gather-layer.ensures ∙ ap (λ (s : ℕ). sets l.loop.words s (tabulate (layer_size (Sh l) k) (λ i. word_of (at (Qs l) (point_of (Sh l) k i))))) l.loop.inv.1 in
-    (omega (arith, (In c).loop-test.true), (cells c).0, gathered-more (Sh l) (Qs l) (yes l) k l.loop.words _ h l.loop.inv.2 e)
+    let e = c.before.before.before.gather_layer.ensures ∙ ap (λ (s : ℕ). sets l.loop-k.words s (tabulate (layer_size (Sh l) k) (λ i. word_of (at (Qs l) (point_of (Sh l) k i))))) l.loop-k.invariant.1 in
+    (omega (arith, (In c).loop-k-test.true), (cells c).0, gathered-more (Sh l) (Qs l) (yes l) k l.loop-k.words _ h l.loop-k.invariant.2 e)
 
-same_length : tie.Need-same-length invariant-loop decreases-loop
+same_length : tie.Need-shape_of-words invariant-loop decreases-loop
 same_length c =
     let s = S c.before in
-    c.before.loop.invariant.2.long ∙ sym (gathered_none s.args.shape s.args.coefficients.now s.args.words.now s.pre.1).long
+    c.before.loop-k.invariant.2.long ∙ sym (gathered_none s.args.shape s.args.coefficients.now s.args.words.now s.requires.1).long
 
 returns : tie.Need-returns invariant-loop decreases-loop
 returns c =
     let l = c.before in
-    let e : l.loop.k ≡ layers (Sh l) = omega (arith, c.loop-test.false, count l) in
-    (l.loop.invariant.1 ∙ ap (block_start (Sh l)) e, gathered-all (Sh l) (Qs l) l.loop.k l.loop.words e l.loop.invariant.2)
+    let e : l.loop-k.k ≡ layers (Sh l) = omega (arith, c.loop-k-test.false, count l) in
+    (l.loop-k.invariant.1 ∙ ap (block_start (Sh l)) e, gathered-all (Sh l) (Qs l) l.loop-k.k l.loop-k.words e l.loop-k.invariant.2)
 
-pub gather-spec : {M : Type 1} → statement M
-gather-spec =
+pub gather_spec : {M : Type 1} → statement M
+gather_spec =
     tie.close
     (tie.spec
     invariant-loop

@@ -17,27 +17,27 @@ use Rattle.packing.proofs.Runs.{sets-none, sets_then}
 use Rattle.packing.proofs.words.gather_layer.Statement.{statement}
 use Rattle.packing.proofs.words.gather_layer.Tie as tie
 
-abbrev invariant-loop : tie.invariant-loop
+abbrev invariant-loop : tie.invariant-loop-t
 invariant-loop coefficients layer words₀ start l t₀ t-end words t =
     (t ≤ t-end) × ((sh : Shape) → Lined sh layer l → words ≡ sets words₀ start (tabulate (t * l.points) (λ i. word_of (at coefficients (point_of sh layer i)))))
 
-abbrev decreases-loop : tie.decreases-loop
+abbrev decreases-loop : tie.decreases-loop-t
 decreases-loop coefficients layer words₀ start l t₀ t-end words t = t-end - t
 
 abbrev L : Type 0
-L = tie.At-loop invariant-loop decreases-loop
+L = tie.At-loop-t invariant-loop decreases-loop
 
 abbrev S : L → tie.Start invariant-loop decreases-loop
 S l = l.before.before.before.before
 
 abbrev In : Type 0
-In = tie.In-loop invariant-loop decreases-loop
+In = tie.In-loop-t invariant-loop decreases-loop
 
 abbrev Sh : L → Shape
 Sh l = (S l).args.shape
 
 abbrev N : L → Lines
-N l = l.before.before.layer-lines.result
+N l = l.before.before.layer_lines-l.result
 
 -- the word of the layer's point i, in a sheet of any shape
 abbrev F : L → Shape → ℕ → ℕ
@@ -49,85 +49,85 @@ G l first j = word_of (at (S l).args.coefficients.now (first + j * (N l).stride)
 
 -- the layer's lines
 lines : (l : L) → Lined (Sh l) (S l).args.layer (N l)
-lines l = l.before.before.layer-lines.ensures
+lines l = l.before.before.layer_lines-l.ensures
 
-same : (l : L) → length l.loop.words ≡ length (S l).args.words.now
-same l = ap length (l.loop.inv.1 (Sh l) (lines l)) ∙ length-sets (S l).args.words.now (S l).args.start (tabulate (l.loop.t * (N l).points) (F l (Sh l)))
+same : (l : L) → length l.loop-t.words ≡ length (S l).args.words.now
+same l = ap length (l.loop-t.invariant.1 (Sh l) (lines l)) ∙ length-sets (S l).args.words.now (S l).args.start (tabulate (l.loop-t.t * (N l).points) (F l (Sh l)))
 
-room : (i : In) → (let l = i.before in (S l).args.start + (l.loop.t * (N l).points + (N l).points) ≤ length l.loop.words)
+room : (i : In) → (let l = i.before in (S l).args.start + (l.loop-t.t * (N l).points + (N l).points) ≤ length l.loop-t.words)
 room i =
     let l = i.before in
-    omega (arith, line-room (lines l) l.loop.t i.loop-test.true, (S l).requires.1.1, same l)
+    omega (arith, line-room (lines l) l.loop-t.t i.loop-t-test.true, (S l).requires.1.1, same l)
 
-layer-lines-requires : tie.Need-layer-lines-requires invariant-loop decreases-loop
+layer-lines-requires : tie.Need-layer_lines-l-requires invariant-loop decreases-loop
 layer-lines-requires c κs = search rules
 
-mul-t-end : tie.Need-overflow-mul-t-end invariant-loop decreases-loop
-mul-t-end c = omega (arith, c.before.layer-lines.ensures.few)
+mul-t-end : tie.Need-overflow_mul-t-end invariant-loop decreases-loop
+mul-t-end c = omega (arith, c.before.layer_lines-l.ensures.few)
 
-loop-holds : tie.Need-loop-init invariant-loop decreases-loop
+loop-holds : tie.Need-loop-t-init invariant-loop decreases-loop
 loop-holds c =
     let s = c.before.before.before in
-    let z : 0 * c.before.layer-lines.result.points ≡ 0 = omega arith in
+    let z : 0 * c.before.layer_lines-l.result.points ≡ 0 = omega arith in
     (omega arith, λ sh d. sym (ap (λ (n : ℕ). sets s.args.words.now s.args.start (tabulate n (λ i. word_of (at s.args.coefficients.now (point_of sh s.args.layer i))))) z ∙ sets-none s.args.words.now s.args.start _))
 
-line-start-requires : tie.Need-line-start-requires invariant-loop decreases-loop
+line-start-requires : tie.Need-line_start-requires invariant-loop decreases-loop
 line-start-requires c κs = tt
 
-mul-gather-line : tie.Need-overflow-mul-gather-line invariant-loop decreases-loop
-mul-gather-line c = let i = c.before.before.before in omega (arith, room i, same i.before, (S i.before).good)
+mul-gather-line : tie.Need-overflow_mul-t invariant-loop decreases-loop
+mul-gather-line c = let i = c.before.before.before in omega (arith, room i, same i.before, (S i.before).well_formed)
 
-add-gather-line : tie.Need-overflow-add-gather-line invariant-loop decreases-loop
-add-gather-line c = let i = c.before.before.before in omega (arith, room i, same i.before, (S i.before).good)
+add-gather-line : tie.Need-overflow_add-start invariant-loop decreases-loop
+add-gather-line c = let i = c.before.before.before in omega (arith, room i, same i.before, (S i.before).well_formed)
 
-gather-line-requires : tie.Need-gather-line-requires invariant-loop decreases-loop
+gather-line-requires : tie.Need-gather_line-requires invariant-loop decreases-loop
 gather-line-requires c κs =
     let i = c.before.before.before in
     let l = i.before in
-    (λ j h. rw ((S l).requires.1.0, c.before.before.line-start.ensures) (line_on (lines l) l.loop.t i.loop-test.true j h), omega (arith, room i))
+    (λ j h. rw ((S l).requires.1.0, c.before.before.line_start.ensures) (line_on (lines l) l.loop-t.t i.loop-t-test.true j h), omega (arith, room i))
 
 -- a turn
 abbrev C : Type 0
-C = tie.After-slice-known2 invariant-loop decreases-loop
+C = tie.After-slice_known-in-loop-t-1 invariant-loop decreases-loop
 
 abbrev Turn : C → In
 Turn c = c.before.before.before.before.before.before
 
-add-t : tie.Need-overflow-add-t invariant-loop decreases-loop
-add-t c = omega (arith, (Turn c).loop-test.true, (lines (Turn c).before).few)
+add-t : tie.Need-overflow_step-t invariant-loop decreases-loop
+add-t c = omega (arith, (Turn c).loop-t-test.true, (lines (Turn c).before).few)
 
-loop-less : tie.Need-loop-smaller invariant-loop decreases-loop
-loop-less c = omega (arith, (Turn c).loop-test.true)
+loop-less : tie.Need-loop-t-smaller invariant-loop decreases-loop
+loop-less c = omega (arith, (Turn c).loop-t-test.true)
 
-loop-again : tie.Need-loop-preserved invariant-loop decreases-loop
+loop-again : tie.Need-loop-t-preserved invariant-loop decreases-loop
 loop-again c =
     let i = Turn c in
     let l = i.before in
     let s = S l in
-    let m = l.loop.t * (N l).points in
+    let m = l.loop-t.t * (N l).points in
     let n = (N l).points in
-    let starts = c.before.before.before.before.before.line-start.ensures in
-    let e : m + n ≡ (l.loop.t + 1) * n = omega arith in (
-      omega (arith, i.loop-test.taken),
+    let starts = c.before.before.before.before.before.line_start.ensures in
+    let e : m + n ≡ (l.loop-t.t + 1) * n = omega arith in (
+      omega (arith, i.loop-t-test.true),
       λ sh d.
           sets_then m n s.args.words.now s.args.start (F l sh) (G l _)
-          (λ j h. ap (λ (p : ℕ). word_of (at s.args.coefficients.now p)) (ap (λ (x : ℕ). x + j * (N l).stride) starts ∙ sym (d.point l.loop.t j i.loop-test.taken h)))
-          (l.loop.inv.1 sh d) c.before.before.gather-line.ensures
+          (λ j h. ap (λ (p : ℕ). word_of (at s.args.coefficients.now p)) (ap (λ (x : ℕ). x + j * (N l).stride) starts ∙ sym (d.point l.loop-t.t j i.loop-t-test.true h)))
+          (l.loop-t.invariant.1 sh d) c.before.before.gather_line.ensures
           ∙ ap (λ (x : ℕ). sets s.args.words.now s.args.start (tabulate x (F l sh))) e,
     )
 
-same_length : tie.Need-same-length invariant-loop decreases-loop
+same_length : tie.Need-shape_of-words invariant-loop decreases-loop
 same_length c = same c.before
 
 returns : tie.Need-returns invariant-loop decreases-loop
 returns c =
     let l = c.before in
-    let end : l.loop.t ≡ (N l).sheets * (N l).lines = omega (arith, c.loop-test.false, l.loop.invariant.0) in
-    let e : l.loop.t * (N l).points ≡ layer_size (Sh l) (S l).args.layer = ap (λ (x : ℕ). x * (N l).points) end ∙ (lines l).size ∙ size-there (Sh l) (S l).requires.0.0 (S l).args.layer (S l).requires.0.1 in
-    l.loop.invariant.1 (Sh l) (lines l) ∙ ap (λ (x : ℕ). sets (S l).args.words.now (S l).args.start (tabulate x (F l (Sh l)))) e
+    let end : l.loop-t.t ≡ (N l).sheets * (N l).lines = omega (arith, c.loop-t-test.false, l.loop-t.invariant.0) in
+    let e : l.loop-t.t * (N l).points ≡ layer_size (Sh l) (S l).args.layer = ap (λ (x : ℕ). x * (N l).points) end ∙ (lines l).size ∙ size-there (Sh l) (S l).requires.0.0 (S l).args.layer (S l).requires.0.1 in
+    l.loop-t.invariant.1 (Sh l) (lines l) ∙ ap (λ (x : ℕ). sets (S l).args.words.now (S l).args.start (tabulate x (F l (Sh l)))) e
 
-pub gather-layer-spec : {M : Type 1} → statement M
-gather-layer-spec =
+pub gather_layer_spec : {M : Type 1} → statement M
+gather_layer_spec =
     tie.close
     (tie.spec
     invariant-loop

@@ -1,6 +1,6 @@
 -- The sum is past 0 and fits, and its last 32 bits are the word: by whether 23 digits hold the coefficient, which they do where the word is below 2 ^ 23.
 use mathlib.Core.Path.{◌≡◌, sym, ap, ◌∙◌}
-use mathlib.Core.Bool.{true, true≢false}
+use mathlib.Core.Bool.{true≢false}
 use Prim.Native.Nat.{◌+◌, ◌%◌, ◌^◌}
 use native.Mathlib.Decide.{dec_lt}
 use native.Mathlib.Omega.{arith}
@@ -36,19 +36,19 @@ word-is q f =
       | no l ↦ rw n (omega arith)
     ])
 
-cast-result : tie.Need-overflow-cast-result
+cast-result : tie.Need-overflow_cast-result
 cast-result c = sfits-by (arg c.ranges.q) (omega (arith, sfits-at (# c.args.q) c.ranges.q))
 
-add-result : tie.Need-overflow-add-result
+add-result : tie.Need-overflow_add-result
 add-result c = sfits-by (bits (cast-result c) (arg c.ranges.q) ⊞ lit _) (omega (arith, sfits-at (# c.args.q) c.ranges.q))
 
-cast-result-2 : tie.Need-overflow-cast-result-2
+cast-result-2 : tie.Need-overflow_cast-result-2
 cast-result-2 c = unsigned_by (bits (add-result c) (bits (cast-result c) (arg c.ranges.q) ⊞ lit _)) (omega (arith, sfits-at (# c.args.q) c.ranges.q))
 
-rem-result : tie.Need-nonzero-rem-result
+rem-result : tie.Need-nonzero_rem-result
 rem-result c = search rules
 
-cast-result-3 : tie.Need-overflow-cast-result-3
+cast-result-3 : tie.Need-overflow_cast-result-3
 cast-result-3 c = search rules
 
 returns : tie.Need-returns
@@ -56,5 +56,6 @@ returns c =
     ap (λ (z : ℤ). nat_abs z % 2 ^ 32) (eq-by (bits (add-result c) (bits (cast-result c) (arg c.ranges.q) ⊞ lit _)) (# c.args.q ⊞ lit (2 ^ 32 + offset)) (omega arith))
     ∙ word-is c.args.q c.ranges.q
 
-pub word-of-spec : {M : Type 1} → statement M
-word-of-spec = tie.close (tie.spec cast-result add-result cast-result-2 rem-result cast-result-3 returns)
+pub word_of_spec : {M : Type 1} → statement M
+word_of_spec =
+    tie.close (tie.spec cast-result add-result cast-result-2 rem-result cast-result-3 returns)

@@ -23,8 +23,8 @@ use Rattle.header.proofs.Over.{over-le, over_none}
 use Rattle.header.proofs.Laid.{laid-length}
 use Rattle.header.proofs.Totals.{total-most}
 use Rattle.packing.specs.Planes.{all_held}
-use Rattle.packing.specs.Workings.Words.{measured_at, rows_of, flat_card}
-use Rattle.packing.proofs.Blocks.{block-whole, blocks-most}
+use Rattle.packing.specs.Workings.Words.{measured_at, flat_card}
+use Rattle.packing.proofs.Blocks.{blocks-most}
 use Rattle.packing.proofs.Cards.{card-unheld, made-right, made-fits, card-is}
 use Rattle.packing.proofs.Losses.{block_held}
 use Rattle.packing.proofs.Runs.{zeros-read}
@@ -35,8 +35,8 @@ use Rattle.packing.proofs.writing.put_card.Tie as tie
 abbrev S : tie.After-gather → tie.Start
 S g = g.before.before.before.before
 
-abbrev G : tie.After-counts → tie.After-gather
-G n = n.before.before.before.before
+abbrev G : tie.After-counts-planes → tie.After-gather
+G n = n.before.before.before
 
 abbrev Qs : tie.Start → List ℤ
 Qs s = s.args.coefficients.now
@@ -50,30 +50,30 @@ long s = full-long s.args.shape (Qs s) s.requires.1
 gather-requires : tie.Need-gather-requires
 gather-requires c κs = let s = c.before.before.before in ((ok s, long s), s.requires.2)
 
-counts-requires : tie.Need-counts-requires
-counts-requires c κs = let g = c.before.before.before in (ok (S g), g.gather.ensures.1.long)
+counts-requires : tie.Need-counts-planes-requires
+counts-requires c κs = let g = c.before.before in (ok (S g), g.gather.ensures.1.long)
 
-first-over-requires : tie.Need-first-over-requires
+first-over-requires : tie.Need-first_over-requires
 first-over-requires c κs = search rules
 
-same_length : tie.Need-same-length
+same_length : tie.Need-shape_of-words-then-first_over-lt-MOST_LAYERS
 same_length c = search rules
 
-returns : tie.Need-returns
+returns : tie.Need-returns-then-first_over-lt-MOST_LAYERS
 returns c =
     let f = c.before in
     let n = f.before in
     let g = G n in
     let s = S g in
-    card-unheld s.args.shape s.args.step s.pre.0 s.args.curve (Qs s) s.pre.1 s.args.output.now
-    (held_none s.args.shape (ok s) (Qs s) (long s) _ g.gather.ensures.1 n.counts.result n.counts.ensures (omega (arith, f.first-over.ensures, c.if1.true)))
+    card-unheld s.args.shape s.args.step s.requires.0 s.args.curve (Qs s) s.requires.1 s.args.output.now
+    (held_none s.args.shape (ok s) (Qs s) (long s) _ g.gather.ensures.1 n.counts-planes.result n.counts-planes.ensures (omega (arith, f.first_over.ensures, c.if-first_over-lt-MOST_LAYERS.true)))
 
 abbrev limit : ℕ → ℕ
 limit k = get_or (replicate layers_most places_most) k 0
 
 -- past the test they are held
-module _ (t : tie.After-total-cells) where
-  abbrev n : tie.After-counts
+module _ (t : tie.After-total_cells-cells) where
+  abbrev n : tie.After-counts-planes
   n = t.before.before.before
 
   abbrev g : tie.After-gather
@@ -82,109 +82,109 @@ module _ (t : tie.After-total-cells) where
   abbrev s : tie.Start
   s = S g
 
-  none : first_over limit (λ k. get_or n.counts.result k 0) ≡ layers_most
-  none = omega (arith, t.before.before.first-over.ensures, t.before.if1.left, over-le limit (λ k. get_or n.counts.result k 0))
+  none : first_over limit (λ k. get_or n.counts-planes.result k 0) ≡ layers_most
+  none = omega (arith, t.before.before.first_over.ensures, t.before.if-first_over-lt-MOST_LAYERS.false, over-le limit (λ k. get_or n.counts-planes.result k 0))
 
   each : (p : ℕ) → holds places_most (at (Qs s) p) ≡ true
-  each = held-each s.args.shape (ok s) (Qs s) (long s) _ g.gather.ensures.1 n.counts.result n.counts.ensures none
+  each = held-each s.args.shape (ok s) (Qs s) (long s) _ g.gather.ensures.1 n.counts-planes.result n.counts-planes.ensures none
 
   held : all_held (Qs s) ≡ true
-  held = held_all s.args.shape (ok s) (Qs s) (long s) _ g.gather.ensures.1 n.counts.result n.counts.ensures none
+  held = held_all s.args.shape (ok s) (Qs s) (long s) _ g.gather.ensures.1 n.counts-planes.result n.counts-planes.ensures none
 
-  few : (k : ℕ) → k < layers_most → get_or n.counts.result k 0 ≤ places_most
-  few k l = omega (arith, over_none limit (λ k. get_or n.counts.result k 0) none k l, get_or-replicate layers_most k places_most 0 l)
+  few : (k : ℕ) → k < layers_most → get_or n.counts-planes.result k 0 ≤ places_most
+  few k l = omega (arith, over_none limit (λ k. get_or n.counts-planes.result k 0) none k l, get_or-replicate layers_most k places_most 0 l)
 
-total-cells-requires : tie.Need-total-cells-requires
+total-cells-requires : tie.Need-total_cells-cells-requires
 total-cells-requires c κs = search rules
 
-slice-aggregate-measure-layers : tie.Need-slice-aggregate-measure-layers
+slice-aggregate-measure-layers : tie.Need-slice_bounds-measure_layers-end
 slice-aggregate-measure-layers c = search rules
 
-measure-layers-requires : tie.Need-measure-layers-requires
+measure-layers-requires : tie.Need-measure_layers-told-requires
 measure-layers-requires c κs =
-    let t = c.before.before in
+    let t = c.before in
     let a = s t in
     let gathered = (g t).gather.ensures.1 in
     ((ok a, gathered.long, length-replicate {A = ℕ} losses_most 0), (few t, block_held a.args.shape (Qs a) _ gathered (each t) (ok a)))
 
 -- the losses, of which there are as many as planes
-module _ (m : tie.After-measure-layers) where
-  abbrev t : tie.After-total-cells
-  t = m.before.before.before
+module _ (m : tie.After-measure_layers-told) where
+  abbrev t : tie.After-total_cells-cells
+  t = m.before.before
 
   abbrev Sh : Shape
   Sh = (s t).args.shape
 
   abbrev count : ℕ → ℕ
-  count k = get_or (n t).counts.result k 0
+  count k = get_or (n t).counts-planes.result k 0
 
   abbrev own : ℕ → ℕ → ℕ
-  own = measured_at Sh (g t).gather.last.1.1.0
+  own = measured_at Sh (g t).gather.new.words
 
   abbrev Ls : List ℕ
   Ls = laid own count (layers Sh)
 
-  many : m.measure-layers.result ≡ length Ls
-  many = m.measure-layers.ensures.0 ∙ sym (laid-length count own (layers Sh))
+  many : m.measure_layers-told.result ≡ length Ls
+  many = m.measure_layers-told.ensures.0 ∙ sym (laid-length count own (layers Sh))
 
   room : length Ls ≤ losses_most
   room =
       let most = layers-few Sh (accepted-yes Sh (ok (s t))) in
       omega (arith, laid-length count own (layers Sh), most, total-most count places_most (layers Sh) (λ k l. few t k (omega (arith, most))))
 
-  told : take m.measure-layers.result m.measure-layers.last.1.1.1.0 ≡ Ls
-  told = ap₂ (λ (n : ℕ) (l : List ℕ). take n l) many m.measure-layers.ensures.1 ∙ zeros-read losses_most Ls room
+  told : take m.measure_layers-told.result m.measure_layers-told.new.table ≡ Ls
+  told = ap₂ (λ (n : ℕ) (l : List ℕ). take n l) many m.measure_layers-told.ensures.1 ∙ zeros-read losses_most Ls room
 
-rows-end-requires : tie.Need-rows-end-requires
+rows-end-requires : tie.Need-rows_end-requires
 rows-end-requires c κs = ok (s (t c.before.before))
 
-abbrev M : tie.After-rows-end → tie.After-measure-layers
+abbrev M : tie.After-rows_end → tie.After-measure_layers-told
 M r = r.before.before.before
 
 turn-requires : tie.Need-turn-requires
 turn-requires c κs =
     let m = M c in
     let a = s (t m) in
-    let rows = c.rows-end.ensures in
+    let rows = c.rows_end.ensures in
     (rows.whole, omega (arith, rows.inside, (g (t m)).gather.ensures.1.long, blocks-most (Sh m) (ok a)))
 
-array-share-prefix-losses : tie.Need-array-share-prefix-losses
+array-share-prefix-losses : tie.Need-slice_bounds-losses-end
 array-share-prefix-losses c =
-    let m = M c.before.before.before.before in
-    omega (arith, many m, room m, ap length m.measure-layers.ensures.1, length-sets (replicate losses_most 0) 0 (Ls m), length-replicate {A = ℕ} losses_most 0)
+    let m = M c.before.before.before in
+    omega (arith, many m, room m, ap length m.measure_layers-told.ensures.1, length-sets (replicate losses_most 0) 0 (Ls m), length-replicate {A = ℕ} losses_most 0)
 
-slice-aggregate-put-rows : tie.Need-slice-aggregate-put-rows
-slice-aggregate-put-rows c = let m = M c.before.before.before.before.before in many m ∙ sym (ap length (told m))
+slice-aggregate-put-rows : tie.Need-slice_bounds-put_rows-end
+slice-aggregate-put-rows c = let m = M c.before.before.before.before in many m ∙ sym (ap length (told m))
 
-put-rows-requires : tie.Need-put-rows-requires
+put-rows-requires : tie.Need-put_rows-requires
 put-rows-requires c κs =
-    let u = c.before.before.before.before.before in
+    let u = c.before.before.before.before in
     let m = M u.before in
     let a = s (t m) in
     let gathered = (g (t m)).gather.ensures.1 in (
-      made-right a.args.shape a.args.step a.pre.0 a.args.curve (Qs a) a.pre.1 (held (t m)) (each (t m)) _ gathered _ (n (t m)).counts.ensures _ (t m).total-cells.ensures,
-      u.turn.auto.0 ∙ gathered.long,
-      made-fits a.args.shape a.args.step a.pre.0 a.args.curve (Qs a) a.pre.1 (held (t m)) (each (t m)) _ gathered _ (n (t m)).counts.ensures _ (t m).total-cells.ensures _ (told m),
+      made-right a.args.shape a.args.step a.requires.0 a.args.curve (Qs a) a.requires.1 (held (t m)) (each (t m)) _ gathered _ (n (t m)).counts-planes.ensures _ (t m).total_cells-cells.ensures,
+      u.turn.auto.words ∙ gathered.long,
+      made-fits a.args.shape a.args.step a.requires.0 a.args.curve (Qs a) a.requires.1 (held (t m)) (each (t m)) _ gathered _ (n (t m)).counts-planes.ensures _ (t m).total_cells-cells.ensures _ (told m),
     )
 
-same-length-2 : tie.Need-same-length-2
+same-length-2 : tie.Need-shape_of-words
 same-length-2 c = search rules
 
-same-length-3 : tie.Need-same-length-3
+same-length-3 : tie.Need-shape_of-output
 same-length-3 c = search rules
 
-returns-2 : tie.Need-returns-2
+returns-2 : tie.Need-returns
 returns-2 c =
     let p = c.before.before in
-    let u = p.before.before.before.before.before.before in
+    let u = p.before.before.before.before.before in
     let m = M u.before in
     let a = s (t m) in
     let out = a.args.output.now in
-    let card = ap (flat_card _ _) u.turn.ensures ∙ card-is a.args.shape a.args.step a.pre.0 a.args.curve (Qs a) a.pre.1 (held (t m)) (each (t m)) _ (g (t m)).gather.ensures.1 _ (n (t m)).counts.ensures _ (t m).total-cells.ensures _ (told m) _ u.before.rows-end.ensures in
-    (p.put-rows.ensures.0 ∙ ap (after out 0) card, p.put-rows.ensures.1 ∙ ap (putting out 0) card)
+    let card = ap (flat_card _ _) u.turn.ensures ∙ card-is a.args.shape a.args.step a.requires.0 a.args.curve (Qs a) a.requires.1 (held (t m)) (each (t m)) _ (g (t m)).gather.ensures.1 _ (n (t m)).counts-planes.ensures _ (t m).total_cells-cells.ensures _ (told m) _ u.before.rows_end.ensures in
+    (p.put_rows.ensures.0 ∙ ap (after out 0) card, p.put_rows.ensures.1 ∙ ap (putting out 0) card)
 
-pub put-card-spec : {M : Type 1} → statement M
-put-card-spec =
+pub put_card_spec : {M : Type 1} → statement M
+put_card_spec =
     tie.close
     (tie.spec
     gather-requires

@@ -16,13 +16,13 @@ use Rattle.packing.proofs.Cards.{planes-long, flat-few, flat-none, flat-all}
 use Rattle.packing.proofs.writing.put_rows.Statement.{statement}
 use Rattle.packing.proofs.writing.put_rows.Tie as tie
 
-slice-aggregate-put-header : tie.Need-slice-aggregate-put-header
+slice-aggregate-put-header : tie.Need-slice_bounds-put_header-end
 slice-aggregate-put-header c = search rules
 
-put-header-requires : tie.Need-put-header-requires
+put-header-requires : tie.Need-put_header-length-requires
 put-header-requires c κs = search rules
 
-module _ (c : tie.After-put-header) where
+module _ (c : tie.After-put_header-length) where
   abbrev S : tie.Start
   S = c.before.before.before.before.before
 
@@ -33,59 +33,59 @@ module _ (c : tie.After-put-header) where
   Text = header_text S.args.header (some Ls)
 
   fits : TextFits S.args.header Ls
-  fits = S.pre.2
+  fits = S.requires.2
 
   abbrev room : List ℕ
   room = replicate text_room 0
 
-  put : (c.put-header.result ≡ length Text) × (c.put-header.new.0 ≡ sets room 0 Text)
+  put : (c.put_header-length.result ≡ length Text) × (c.put_header-length.new.out ≡ sets room 0 Text)
   put =
       let f = header-fits room Ls S.args.header (omega (arith, fits.losses, length-replicate {A = ℕ} text_room 0)) in
-      (c.put-header.ensures.0 ∙ f.0, c.put-header.ensures.1 ∙ f.1)
+      (c.put_header-length.ensures.0 ∙ f.0, c.put_header-length.ensures.1 ∙ f.1)
 
-  text-is : take c.put-header.result c.put-header.new.0 ≡ Text
+  text-is : take c.put_header-length.result c.put_header-length.new.out ≡ Text
   text-is = ap₂ (λ (n : ℕ) (l : List ℕ). take n l) put.0 put.1 ∙ zeros-read text_room Text fits.text
 
-  within : c.put-header.result ≤ length c.put-header.new.0
+  within : c.put_header-length.result ≤ length c.put_header-length.new.out
   within = omega (arith, put.0, ap length put.1, length-sets room 0 Text, length-replicate {A = ℕ} text_room 0, fits.text)
 
-mul-if1 : tie.Need-overflow-mul-if1
+mul-if1 : tie.Need-overflow_mul-header
 mul-if1 c =
     let s = S c.before in
-    omega (arith, flat-few s.args.header s.pre.0 s.args.losses.now s.pre.2 s.args.rows.now)
+    omega (arith, flat-few s.args.header s.requires.0 s.args.losses.now s.requires.2 s.args.rows.now)
 
-add-if1 : tie.Need-overflow-add-if1
+add-if1 : tie.Need-overflow_add-length
 add-if1 c =
     let s = S c.before in
-    omega (arith, (put c.before).0, flat-few s.args.header s.pre.0 s.args.losses.now s.pre.2 s.args.rows.now)
+    omega (arith, (put c.before).0, flat-few s.args.header s.requires.0 s.args.losses.now s.requires.2 s.args.rows.now)
 
-returns : tie.Need-returns
+returns : tie.Need-returns-then-output-length
 returns c =
     let t = c.before.before in
     let s = S t in
-    flat-none s.args.header s.pre.0 s.args.losses.now s.pre.2 s.args.rows.now s.args.output.now (omega (arith, c.if1.true, (put t).0))
+    flat-none s.args.header s.requires.0 s.args.losses.now s.requires.2 s.args.rows.now s.args.output.now (omega (arith, c.if-output-length.true, (put t).0))
 
-array-share-prefix-bytes : tie.Need-array-share-prefix-bytes
+array-share-prefix-bytes : tie.Need-slice_bounds-bytes-end
 array-share-prefix-bytes c = within c.before.before.before
 
-slice-aggregate-put : tie.Need-slice-aggregate-put
+slice-aggregate-put : tie.Need-slice_bounds-put-end
 slice-aggregate-put c = let t = c.before.before.before.before in (put t).0 ∙ sym (ap length (text-is t))
 
 put-requires : tie.Need-put-requires
 put-requires c κs = search rules
 
-put-body-requires : tie.Need-put-body-requires
+put-body-requires : tie.Need-put_body-requires
 put-body-requires c κs =
     let p = c.before.before.before in
     let e = p.before.before.before in
     let t = e.before.before in
     let s = S t in
-    (((right-yes s.args.header s.pre.0).shape, s.pre.1), omega (arith, e.if1.false, (put t).0, planes-long s.args.header s.pre.0 s.args.losses.now s.pre.2 s.args.rows.now, p.put.auto.0))
+    (((right-yes s.args.header s.requires.0).shape, s.requires.1), omega (arith, e.if-output-length.false, (put t).0, planes-long s.args.header s.requires.0 s.args.losses.now s.requires.2 s.args.rows.now, p.put.auto.out))
 
-same_length : tie.Need-same-length
+same_length : tie.Need-shape_of-output
 same_length c = search rules
 
-returns-2 : tie.Need-returns-2
+returns-2 : tie.Need-returns
 returns-2 c =
     let b = c.before.before in
     let p = b.before.before.before.before in
@@ -93,13 +93,13 @@ returns-2 c =
     let t = e.before.before in
     let s = S t in
     let n = (put t).0 in
-    flat-all s.args.header s.pre.0 s.args.losses.now s.pre.2 s.args.rows.now s.args.output.now (omega (arith, e.if1.false, n)) _ _ _
+    flat-all s.args.header s.requires.0 s.args.losses.now s.requires.2 s.args.rows.now s.args.output.now (omega (arith, e.if-output-length.false, n)) _ _ _
     (rw (text-is t) at p.put.ensures.1)
-    (rw n at b.put-body.ensures.0)
-    (rw n at b.put-body.ensures.1)
+    (rw n at b.put_body.ensures.0)
+    (rw n at b.put_body.ensures.1)
 
-pub put-rows-spec : {M : Type 1} → statement M
-put-rows-spec =
+pub put_rows_spec : {M : Type 1} → statement M
+put_rows_spec =
     tie.close
     (tie.spec
     slice-aggregate-put-header
