@@ -10,7 +10,7 @@ use lib.IntN.{ℤ}
 use lib.ListN.{length}
 use Rattle.integers.proofs.Bools.{by, choice, and_left, and_right}
 use Rattle.sheet.specs.declared.Shape.{Shape}
-use Rattle.sheet.specs.Lists.{at, count, nth}
+use Rattle.sheet.specs.Lists.{count, nth}
 use Rattle.sheet.specs.Sheet.{points}
 use Rattle.sheet.proofs.Accepting.{accepted-yes}
 use Rattle.header.specs.declared.Details.{Details}

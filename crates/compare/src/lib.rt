@@ -1,4 +1,6 @@
 // Two cards of one sheet, a coarse one and a fine one: where what they show differs by more than both their figures.
+#![tactic(auto)]
+
 ghost use Rattle.std.specs.Prelude.{◌≡◌};
 ghost use Rattle.sheet.specs.Sheet.{points};
 ghost use Rattle.sheet.specs.Workings.Shapes.{points_in};

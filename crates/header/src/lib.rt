@@ -1,4 +1,6 @@
 // A card's header: its text, opening any bytes, and the planes that it names; refusals and plans.
+#![tactic(auto)]
+
 ghost use Rattle.std.specs.Prelude.{◌≡◌};
 ghost use Rattle.header.specs.Refusals as R;
 ghost use Rattle.header.specs.Workings as W;

@@ -1,5 +1,7 @@
 // A sheet's layers: quantizing samples to coefficients and values, and rebuilding values from coefficients, in the caller's slices.
 // Each layer is walked as a grid of rows and columns; of sheets too, once stacks come.
+#![tactic(auto)]
+
 ghost use Rattle.std.specs.Prelude.{◌≡◌};
 ghost use Rattle.layers.specs.Workings.Calls as W;
 

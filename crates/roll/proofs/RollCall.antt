@@ -15,7 +15,7 @@ use Rattle.sheet.specs.Sheet.{accepted, points}
 use Rattle.sheet.specs.Workings.Shapes.{points_in}
 use Rattle.sheet.proofs.Accepting.{accepted-yes}
 use Rattle.header.specs.declared.Opened.{Opened}
-use Rattle.header.specs.Refusals.{refusal, details_of}
+use Rattle.header.specs.Refusals.{details_of}
 use Rattle.header.specs.Opening.{Opening, opening}
 use Rattle.header.specs.Opening as O
 use Rattle.header.proofs.OpenedSize.{opened-small}

@@ -1,4 +1,6 @@
 // The roll: what a card shows, in lines for a printer of 24 characters.
+#![tactic(auto)]
+
 ghost use Rattle.std.specs.Prelude.{◌≡◌, ◌+◌, ◌*◌};
 ghost use Rattle.sheet.specs.Workings.Shapes.{points_in};
 ghost use Rattle.card.specs.Reading as R;

@@ -5,11 +5,12 @@ use Rattle.header.specs.Opening.{Opening}
 use Rattle.compare.proofs.shape_of.Statement.{statement}
 use Rattle.compare.proofs.shape_of.Tie as tie
 
-open-requires : tie.Need-open-requires
+open-requires : tie.Need-open-opened-requires
 open-requires c κs = search rules
 
 returns : tie.Need-returns
-returns c = ap (λ (o : Opening). o.header.shape) c.before.before.«open».ensures.0
+returns c = ap (λ (o : Opening). o.header.shape) c.open-opened.ensures.0
 
-pub shape-of-spec : {M : Type 1} → statement M
-shape-of-spec = tie.close (tie.spec open-requires returns)
+pub shape_of_spec : {M : Type 1} → statement M
+shape_of_spec =
+    tie.close (tie.spec open-requires returns)

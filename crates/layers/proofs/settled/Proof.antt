@@ -8,13 +8,14 @@ use Rattle.layers.proofs.settled.Tie as tie
 accepted-requires : tie.Need-accepted-requires
 accepted-requires c κs = search rules
 
-returns : tie.Need-returns
+returns : tie.Need-returns-then-accepted
 unfolding settled
-returns c = simp (sym c.before.accepted.ensures ∙ c.if1.true)
+returns c = simp (sym c.before.accepted.ensures ∙ c.if-accepted.true)
 
-returns-2 : tie.Need-returns-2
+returns-2 : tie.Need-returns
 unfolding settled
-returns-2 c = simp (sym c.before.accepted.ensures ∙ c.if1.false)
+returns-2 c = simp (sym c.before.accepted.ensures ∙ c.if-accepted.false)
 
-pub settled-spec : {M : Type 1} → statement M
-settled-spec = tie.close (tie.spec accepted-requires returns returns-2)
+pub settled_spec : {M : Type 1} → statement M
+settled_spec =
+    tie.close (tie.spec accepted-requires returns returns-2)

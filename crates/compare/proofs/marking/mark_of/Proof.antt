@@ -11,19 +11,19 @@ use Rattle.compare.proofs.Sums.{two-sums}
 use Rattle.compare.proofs.marking.mark_of.Statement.{statement}
 use Rattle.compare.proofs.marking.mark_of.Tie as tie
 
-add-room : tie.Need-overflow-add-room
+add-room : tie.Need-overflow_add-room
 add-room s = search rules
 
-cast-room : tie.Need-overflow-cast-room
+cast-room : tie.Need-overflow_cast-room
 cast-room s = search rules
 
-sub-far : tie.Need-overflow-sub-far
+sub-far : tie.Need-overflow_sub-far
 sub-far s = sfits-by (arg s.ranges.value1 ⊖ arg s.ranges.value2) (omega (arith, s.requires.1.size, s.requires.2.size))
 
-sub-result : tie.Need-overflow-sub-result
+sub-result : tie.Need-overflow_sub-result
 sub-result s = sfits-by (cast (cast-room s) ⊖ bits (sub-far s) (arg s.ranges.value1 ⊖ arg s.ranges.value2)) (omega (arith, s.requires.1.size, s.requires.2.size))
 
-add-result : tie.Need-overflow-add-result
+add-result : tie.Need-overflow_add-result
 add-result s = sfits-by (cast (cast-room s) ⊞ bits (sub-far s) (arg s.ranges.value1 ⊖ arg s.ranges.value2)) (omega (arith, s.requires.1.size, s.requires.2.size))
 
 -- what the machine reads of a sum that fits
@@ -32,21 +32,21 @@ module _ {k : ℕ} (room : SFits w64 (pos k)) (s : tie.Start) where
   far = to_z w64 (of_z w64 (to_z w64 (of_z w64 s.args.value1) -ℤ to_z w64 (of_z w64 s.args.value2)))
 
   abbrev less : SFits w64 (to_z w64 k -ℤ far) → Diff (to_z w64 (of_z w64 (to_z w64 k -ℤ far)))
-  less f = bits f (cast room ⊖ bits (sub-far s) (arg s.fits.value1 ⊖ arg s.fits.value2))
+  less f = bits f (cast room ⊖ bits (sub-far s) (arg s.ranges.value1 ⊖ arg s.ranges.value2))
 
   abbrev more : SFits w64 (to_z w64 k +ℤ far) → Diff (to_z w64 (of_z w64 (to_z w64 k +ℤ far)))
-  more f = bits f (cast room ⊞ bits (sub-far s) (arg s.fits.value1 ⊖ arg s.fits.value2))
+  more f = bits f (cast room ⊞ bits (sub-far s) (arg s.ranges.value1 ⊖ arg s.ranges.value2))
 
-cast-result : tie.Need-overflow-cast-result
+cast-result : tie.Need-overflow_cast-result
 cast-result s = unsigned_by (less (cast-room s) s (sub-result s)) (omega (arith, s.requires.1.size, s.requires.2.size))
 
-cast-result-2 : tie.Need-overflow-cast-result-2
+cast-result-2 : tie.Need-overflow_cast-result-2
 cast-result-2 s = unsigned_by (more (cast-room s) s (add-result s)) (omega (arith, s.requires.1.size, s.requires.2.size))
 
-sub-result-2 : tie.Need-overflow-sub-result-2
+sub-result-2 : tie.Need-overflow_sub-result-2
 sub-result-2 s = omega (arith, unsigned_is (less (cast-room s) s (sub-result s)) (omega (arith, s.requires.1.size, s.requires.2.size)), s.requires.1.size, s.requires.2.size)
 
-sub-result-3 : tie.Need-overflow-sub-result-3
+sub-result-3 : tie.Need-overflow_sub-result-3
 sub-result-3 s =
     omega (
       arith,
@@ -62,17 +62,6 @@ returns s =
     (omega (arith, unsigned_is (less (cast-room s) s (sub-result s)) (omega (arith, s.requires.1.size, s.requires.2.size))))
     (omega (arith, unsigned_is (more (cast-room s) s (add-result s)) (omega (arith, s.requires.1.size, s.requires.2.size))))
 
-pub mark-of-spec : {M : Type 1} → statement M
-mark-of-spec =
-    tie.close
-    (tie.spec
-    add-room
-    cast-room
-    sub-far
-    sub-result
-    cast-result
-    sub-result-2
-    add-result
-    cast-result-2
-    sub-result-3
-    returns)
+pub mark_of_spec : {M : Type 1} → statement M
+mark_of_spec =
+    tie.close (tie.spec add-room cast-room sub-far sub-result cast-result sub-result-2 add-result cast-result-2 sub-result-3 returns)

@@ -26,39 +26,30 @@ module _ (plan : Plan) (k : ℕ) where
   unfolding with_plane
   grown h l = simp (lt-ltb k layers_most h, lt-ltb (loads plan k + 1) (2 ^ 64) l)
 
-returns : tie.Need-returns
+returns : tie.Need-returns-then-layer-ge-MOST_LAYERS
 returns c = past c.before.args.self c.before.args.layer (omega arith)
 
-mul-n : tie.Need-overflow-mul-n
+mul-n : tie.Need-offset_bounds-next-layer
 mul-n c = search rules
 
-element-copy-out-n : tie.Need-element-copy-out-n
+element-copy-out-n : tie.Need-bounds-next-layer
 element-copy-out-n c = search rules
 
-returns-2 : tie.Need-returns-2
+returns-2 : tie.Need-returns-then-n-ge18446744073709551615
 returns-2 c = largest c.before.before.before.args.self c.before.before.before.args.layer (omega arith)
 
-add-next : tie.Need-overflow-add-next
+add-next : tie.Need-overflow_add-next
 add-next c = omega arith
 
-mul_next : tie.Need-overflow-mul-next
+mul_next : tie.Need-offset_bounds-next-layer-2
 mul_next c = search rules
 
-element-write-next : tie.Need-element-write-next
+element-write-next : tie.Need-bounds-next-layer-2
 element-write-next c = search rules
 
-returns-3 : tie.Need-returns-3
+returns-3 : tie.Need-returns
 returns-3 c = grown c.before.before.before.args.self c.before.before.before.args.layer (omega arith) (omega arith)
 
-pub with-plane-spec : {M : Type 1} → statement M
-with-plane-spec =
-    tie.close
-    (tie.spec
-    returns
-    mul-n
-    element-copy-out-n
-    returns-2
-    add-next
-    mul_next
-    element-write-next
-    returns-3)
+pub with_plane_spec : {M : Type 1} → statement M
+with_plane_spec =
+    tie.close (tie.spec returns mul-n element-copy-out-n returns-2 add-next mul_next element-write-next returns-3)

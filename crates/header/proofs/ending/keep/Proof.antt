@@ -11,68 +11,65 @@ use Rattle.text.proofs.Stores.{sets-next, sets-whole}
 use Rattle.header.proofs.ending.keep.Statement.{statement}
 use Rattle.header.proofs.ending.keep.Tie as tie
 
-abbrev invariant-loop : tie.invariant-loop
+abbrev invariant-loop : tie.invariant-loop-i
 invariant-loop numbers table₀ count i₀ table i =
     (i ≤ count) × (table ≡ sets table₀ 0 (take i numbers))
 
-abbrev decreases-loop : tie.decreases-loop
+abbrev decreases-loop : tie.decreases-loop-i
 decreases-loop numbers table₀ count i₀ table i = count - i
 
 abbrev L : Type 0
-L = tie.At-loop invariant-loop decreases-loop
+L = tie.At-loop-i invariant-loop decreases-loop
 
 abbrev S : L → tie.Start invariant-loop decreases-loop
 S l = l.before.before
 
-abbrev In : Type 0
-In = tie.In-loop invariant-loop decreases-loop
+same : (l : L) → length l.loop-i.table ≡ length (S l).args.table.now
+same l = ap length l.loop-i.invariant.1 ∙ length-sets (S l).args.table.now 0 (take l.loop-i.i (S l).args.numbers.now)
 
-same : (l : L) → length l.loop.table ≡ length (S l).args.table.now
-same l = ap length l.loop.inv.1 ∙ length-sets (S l).args.table.now 0 (take l.loop.i (S l).args.numbers.now)
-
-returns : tie.Need-returns invariant-loop decreases-loop
+returns : tie.Need-returns-then-table-count invariant-loop decreases-loop
 returns c = sym (put-over c.before.args.table.now 0 c.before.args.numbers.now (omega arith)).1
 
-loop-holds : tie.Need-loop-init invariant-loop decreases-loop
+loop-holds : tie.Need-loop-i-init invariant-loop decreases-loop
 loop-holds c = (omega arith, refl)
 
-mul-table : tie.Need-overflow-mul-table invariant-loop decreases-loop
+mul-table : tie.Need-offset_bounds-numbers-i invariant-loop decreases-loop
 mul-table c = omega arith
 
-shared-slice-read-table : tie.Need-shared-slice-read-table invariant-loop decreases-loop
-shared-slice-read-table c = c.before.loop-test.true
+shared-slice-read-table : tie.Need-bounds-numbers-i invariant-loop decreases-loop
+shared-slice-read-table c = c.before.loop-i-test.true
 
-cast-table : tie.Need-overflow-cast-table invariant-loop decreases-loop
-cast-table c = let i = c.before in let p = (S i.before).pre i.before.loop.i in omega arith
+cast-table : tie.Need-overflow_cast-table invariant-loop decreases-loop
+cast-table c = let i = c.before in let p = (S i.before).requires i.before.loop-i.i in omega arith
 
-mul-table-2 : tie.Need-overflow-mul-table-2 invariant-loop decreases-loop
+mul-table-2 : tie.Need-offset_bounds-table-i invariant-loop decreases-loop
 mul-table-2 c = omega arith
 
-slice-write-table : tie.Need-slice-write-table invariant-loop decreases-loop
+slice-write-table : tie.Need-bounds-table-i invariant-loop decreases-loop
 slice-write-table c = let i = c.before in omega (arith, same i.before)
 
-add-i : tie.Need-overflow-add-i invariant-loop decreases-loop
+add-i : tie.Need-overflow_step-i invariant-loop decreases-loop
 add-i c = omega arith
 
-loop-less : tie.Need-loop-smaller invariant-loop decreases-loop
+loop-less : tie.Need-loop-i-smaller invariant-loop decreases-loop
 loop-less c = omega arith
 
-loop-again : tie.Need-loop-preserved invariant-loop decreases-loop
+loop-again : tie.Need-loop-i-preserved invariant-loop decreases-loop
 loop-again c =
     let l = c.before.before in
     let s = S l in (
       omega arith,
-      ap (λ (t : List ℕ). set t l.loop.i (get_or s.args.numbers.now l.loop.i 0)) l.loop.invariant.1 ∙ rw (zero-add l.loop.i) at (sets-next s.args.table.now 0 s.args.numbers.now l.loop.i 0 (omega arith)),
+      ap (λ (t : List ℕ). set t l.loop-i.i (get_or s.args.numbers.now l.loop-i.i 0)) l.loop-i.invariant.1 ∙ rw (zero-add l.loop-i.i) at (sets-next s.args.table.now 0 s.args.numbers.now l.loop-i.i 0 (omega arith)),
     )
 
-same_length : tie.Need-same-length invariant-loop decreases-loop
+same_length : tie.Need-shape_of-table invariant-loop decreases-loop
 same_length c = same c.before
 
-returns-2 : tie.Need-returns-2 invariant-loop decreases-loop
+returns-2 : tie.Need-returns invariant-loop decreases-loop
 returns-2 c =
     let l = c.before in
     let s = S l in
-    l.loop.invariant.1 ∙ sets-whole s.args.table.now 0 s.args.numbers.now l.loop.i (omega arith) ∙ sym (put-fits s.args.table.now 0 s.args.numbers.now (omega arith)).1
+    l.loop-i.invariant.1 ∙ sets-whole s.args.table.now 0 s.args.numbers.now l.loop-i.i (omega arith) ∙ sym (put-fits s.args.table.now 0 s.args.numbers.now (omega arith)).1
 
 pub keep_spec : {M : Type 1} → statement M
 keep_spec =

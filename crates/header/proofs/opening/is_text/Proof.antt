@@ -4,14 +4,15 @@ use borrow.Author.Rules.{rules}
 use Rattle.header.proofs.opening.is_text.Statement.{statement}
 use Rattle.header.proofs.opening.is_text.Tie as tie
 
-starts-with-requires : tie.Need-starts-with-requires
+starts-with-requires : tie.Need-starts_with-requires
 starts-with-requires c κs = search rules
 
-returns : tie.Need-returns
-returns c = rw (sym c.before.starts_with.ensures ∙ c.if1.true)
+returns : tie.Need-returns-then-starts_with
+returns c = rw (sym c.before.starts_with.ensures ∙ c.if-starts_with.true)
 
-returns-2 : tie.Need-returns-2
-returns-2 c = rw (sym c.before.starts_with.ensures ∙ c.if1.false)
+returns-2 : tie.Need-returns
+returns-2 c = rw (sym c.before.starts_with.ensures ∙ c.if-starts_with.false)
 
-pub is-text-spec : {M : Type 1} → statement M
-is-text-spec = tie.close (tie.spec starts-with-requires returns returns-2)
+pub is_text_spec : {M : Type 1} → statement M
+is_text_spec =
+    tie.close (tie.spec starts-with-requires returns returns-2)

@@ -12,63 +12,59 @@ use Rattle.header.proofs.Taking.{read}
 use Rattle.header.proofs.opening.open_rows.Statement.{statement}
 use Rattle.header.proofs.opening.open_rows.Tie as tie
 
-abbrev A : tie.After-read-line → tie.Start
-A r = r.before.before.before
+abbrev A : tie.After-read_line → tie.Start
+A r = r.before.before.before.before
 
-line : (r : tie.After-read-line) → line_at (ascii "rows=") 1 points_most (A r).args.bytes.now ≡ r.read-line.result
+line : (r : tie.After-read_line) → line_at (ascii "rows=") 1 points_most (A r).args.bytes.now ≡ r.read_line.result
 unfolding ascii_from
-line r = read _ _ _ _ r.read-line.ensures refl (omega arith) (omega arith)
+line r = read _ _ _ _ r.read_line.ensures refl (omega arith) (omega arith)
 
-abbrev R : tie.After-value → tie.After-read-line
-R v = v.before.before
+abbrev R : tie.In-Number → tie.After-read_line
+R v = v.before
 
-number : (v : tie.After-value) → line_at (ascii "rows=") 1 points_most (A (R v)).args.bytes.now ≡ Number v.value.given.0.0 v.value.given.0.1.0
-number v = line (R v) ∙ v.value.given.1
+number : (v : tie.In-Number) → line_at (ascii "rows=") 1 points_most (A (R v)).args.bytes.now ≡ Number v.in-Number.value v.in-Number.length
+number v = line (R v) ∙ v.in-Number.is
 
-told : (v : tie.After-value) → Written (ascii "rows=") 1 points_most (A (R v)).args.bytes.now v.value.given.0.0 v.value.given.0.1.0
+told : (v : tie.In-Number) → Written (ascii "rows=") 1 points_most (A (R v)).args.bytes.now v.in-Number.value v.in-Number.length
 told v = written _ _ _ _ _ _ (number v)
 
-slice-aggregate-read-line : tie.Need-slice-aggregate-read-line
-slice-aggregate-read-line c = search rules
-
-read-line-requires : tie.Need-read-line-requires
+read-line-requires : tie.Need-read_line-requires
 read-line-requires c κs = search rules
 
-enum_told : tie.Need-enum-told
+enum_told : tie.Need-enum_told-1
 enum_told c = search rules
 
 refused-requires : tie.Need-refused-requires
 refused-requires c κs = search rules
 
-enum-told-2 : tie.Need-enum-told-2
+enum-told-2 : tie.Need-enum_told-in-Wrong
 enum-told-2 c = search rules
 
-refused-requires-2 : tie.Need-refused-requires-2
+refused-requires-2 : tie.Need-refused-requires-in-Wrong
 refused-requires-2 c κs = search rules
 
-enum-known-value : tie.Need-enum-known-value
+enum-known-value : tie.Need-enum_known-value
 enum-known-value c = search rules
 
-open-cols-requires : tie.Need-open-cols-requires
-open-cols-requires c κs = ((told c.before).least, (told c.before).most)
+open-cols-requires : tie.Need-open_cols-requires
+open-cols-requires c κs = ((told c).least, (told c).most)
 
-returns : tie.Need-returns
+returns : tie.Need-returns-in-Short
 unfolding opening_rows
-returns c = rw (line c.before.before.before, c.before.enum_told.given.1, c.refused.ensures.0)
+returns c = rw (line c.before.before, c.before.in-Short.is, c.refused.ensures.0)
 
-returns-2 : tie.Need-returns-2
+returns-2 : tie.Need-returns-in-Wrong
 unfolding opening_rows
-returns-2 c = rw (line c.before.before.before, c.before.enum-told2.given.1, c.refused2.ensures.0)
+returns-2 c = rw (line c.before.before, c.before.in-Wrong.is, c.refused-in-Wrong.ensures.0)
 
-returns-3 : tie.Need-returns-3
+returns-3 : tie.Need-returns-in-Number
 unfolding opening_rows
-returns-3 c = rw (number c.before.before) c.open-cols.ensures
+returns-3 c = rw (number c.before) c.open_cols.ensures
 
-pub open-rows-spec : {M : Type 1} → statement M
-open-rows-spec =
+pub open_rows_spec : {M : Type 1} → statement M
+open_rows_spec =
     tie.close
     (tie.spec
-    slice-aggregate-read-line
     read-line-requires
     enum_told
     refused-requires

@@ -7,18 +7,19 @@ use Rattle.header.proofs.Cells.{cells-sized}
 use Rattle.header.proofs.planes.plane_cells.Statement.{statement}
 use Rattle.header.proofs.planes.plane_cells.Tie as tie
 
-layer-size-requires : tie.Need-layer-size-requires
+layer-size-requires : tie.Need-layer_size-requires
 layer-size-requires c κs = search rules
 
-sub-result : tie.Need-overflow-sub-result
+sub-result : tie.Need-overflow_sub-result
 sub-result c = omega arith
 
-add-result : tie.Need-overflow-add-result
+add-result : tie.Need-overflow_add-result
 add-result c = omega (arith, sizing-most c.before.args.shape c.before.args.layer)
 
 returns : tie.Need-returns
 unfolding ceil_div
-returns c = omega (arith, c.layer-size.ensures, cells-sized c.before.args.shape c.before.args.layer)
+returns c = omega (arith, c.layer_size.ensures, cells-sized c.before.args.shape c.before.args.layer)
 
-pub plane-cells-spec : {M : Type 1} → statement M
-plane-cells-spec = tie.close (tie.spec layer-size-requires sub-result add-result returns)
+pub plane_cells_spec : {M : Type 1} → statement M
+plane_cells_spec =
+    tie.close (tie.spec layer-size-requires sub-result add-result returns)

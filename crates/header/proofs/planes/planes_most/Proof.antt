@@ -5,13 +5,14 @@ use Rattle.header.specs.Workings.{most_by}
 use Rattle.header.proofs.planes.planes_most.Statement.{statement}
 use Rattle.header.proofs.planes.planes_most.Tie as tie
 
-returns : tie.Need-returns
+returns : tie.Need-returns-then-span-eq0
 unfolding most_by
 returns c = rw (eq-eqb c.before.args.span 0 (omega arith))
 
-returns-2 : tie.Need-returns-2
+returns-2 : tie.Need-returns
 unfolding most_by
-returns-2 c = rw (ne_eqb c.before.args.span 0 c.if1.false)
+returns-2 c = rw (ne_eqb c.before.args.span 0 c.if-span-eq0.false)
 
-pub planes-most-spec : {M : Type 1} → statement M
-planes-most-spec = tie.close (tie.spec returns returns-2)
+pub planes_most_spec : {M : Type 1} → statement M
+planes_most_spec =
+    tie.close (tie.spec returns returns-2)

@@ -14,24 +14,24 @@ use Rattle.header.proofs.Total.{span-most}
 use Rattle.header.proofs.planes.total_cells.Statement.{statement}
 use Rattle.header.proofs.planes.total_cells.Tie as tie
 
-spans-of-requires : tie.Need-spans-of-requires
+spans-of-requires : tie.Need-spans_of-spans-requires
 spans-of-requires c κs = search rules
 
-counts-fit-requires : tie.Need-counts-fit-requires
-counts-fit-requires c κs = c.spans-of.ensures
+counts-fit-requires : tie.Need-counts_fit-requires
+counts-fit-requires c κs = c.spans_of-spans.ensures
 
-yes-counts : (c : tie.Then1) → (let s = c.before.before.before in counts_fit s.args.shape s.args.planes ≡ true)
-yes-counts c = sym c.before.counts-fit.ensures ∙ c.if1.true
+yes-counts : (c : tie.Then-counts_fit) → (let s = c.before.before.before in counts_fit s.args.shape s.args.planes ≡ true)
+yes-counts c = sym c.before.counts_fit.ensures ∙ c.if-counts_fit.true
 
-cells-of-requires : tie.Need-cells-of-requires
+cells-of-requires : tie.Need-cells_of-requires
 cells-of-requires c κs =
     let a = c.before.before in
     let s = a.before in
     let sh = s.args.shape in
     let long : length s.args.planes ≡ layers_most = search rules in
-    λ k. (rw a.spans-of.ensures (span-most sh k), all-few sh s.args.planes long (counts-yes sh s.args.planes (yes-counts c)).counts k)
+    λ k. (rw a.spans_of-spans.ensures (span-most sh k), all-few sh s.args.planes long (counts-yes sh s.args.planes (yes-counts c)).counts k)
 
-returns : tie.Need-returns
+returns : tie.Need-returns-then-counts_fit
 unfolding cells_named
 returns c =
     let t = c.before in
@@ -39,11 +39,12 @@ returns c =
     let s = a.before in
     let sh = s.args.shape in
     rw (yes-counts t)
-    (c.cells-of.ensures ∙ ap (λ (spans : List ℕ). cells_by spans s.args.planes) a.spans-of.ensures ∙ cells-by sh (counts-yes sh s.args.planes (yes-counts t)).shape s.args.planes)
+    (c.cells_of.ensures ∙ ap (λ (spans : List ℕ). cells_by spans s.args.planes) a.spans_of-spans.ensures ∙ cells-by sh (counts-yes sh s.args.planes (yes-counts t)).shape s.args.planes)
 
-returns-2 : tie.Need-returns-2
+returns-2 : tie.Need-returns
 unfolding cells_named
-returns-2 c = rw (sym c.before.counts-fit.ensures ∙ c.if1.false)
+returns-2 c = rw (sym c.before.counts_fit.ensures ∙ c.if-counts_fit.false)
 
-pub total-cells-spec : {M : Type 1} → statement M
-total-cells-spec = tie.close (tie.spec spans-of-requires counts-fit-requires cells-of-requires returns returns-2)
+pub total_cells_spec : {M : Type 1} → statement M
+total_cells_spec =
+    tie.close (tie.spec spans-of-requires counts-fit-requires cells-of-requires returns returns-2)

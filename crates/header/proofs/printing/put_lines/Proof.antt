@@ -19,10 +19,10 @@ use Rattle.header.proofs.TextLength.{loss-length, first_fits}
 use Rattle.header.proofs.printing.put_lines.Statement.{statement}
 use Rattle.header.proofs.printing.put_lines.Tie as tie
 
-abbrev S : tie.After-put-first → tie.Start
+abbrev S : tie.After-put_first-first → tie.Start
 S c = c.before.before.before.before
 
-abbrev F : tie.After-put-losses → tie.After-put-first
+abbrev F : tie.After-put_losses-end → tie.After-put_first-first
 F c = c.before.before.before.before
 
 abbrev H : tie.Start → Header
@@ -44,43 +44,33 @@ room s =
       first_fits (H s) (search rules) (search rules) (search rules) (search rules) (search rules) (λ k _. number s k),
     )
 
-put-first-requires : tie.Need-put-first-requires
+put-first-requires : tie.Need-put_first-first-requires
 put-first-requires c κs = search rules
 
-put-losses-requires : tie.Need-put-losses-requires
-put-losses-requires c κs = let f = c.before.before.before in omega (arith, room (S f), f.put_first.ensures.0, f.put_first.auto.0)
+put-losses-requires : tie.Need-put_losses-end-requires
+put-losses-requires c κs = let f = c.before.before.before in omega (arith, room (S f), f.put_first-first.ensures.0, f.put_first-first.auto.out)
 
-slice-aggregate-put-line : tie.Need-slice-aggregate-put-line
-slice-aggregate-put-line c = search rules
-
-put-line-requires : tie.Need-put-line-requires
+put-line-requires : tie.Need-put_line-requires
 put-line-requires c κs =
-    let l = c.before.before.before.before in
+    let l = c.before.before.before.before.before in
     let f = F l in
-    simp line-length (omega (arith, room (S f), f.put_first.ensures.0, f.put_first.kept.0, l.put-losses.ensures.0, l.put-losses.auto.0))
+    simp line-length (omega (arith, room (S f), f.put_first-first.ensures.0, f.put_first-first.auto.out, l.put_losses-end.ensures.0, l.put_losses-end.auto.out))
 
-same_length : tie.Need-same-length
+same_length : tie.Need-shape_of-out
 same_length c = search rules
 
 returns : tie.Need-returns
 unfolding header_text ascii_from
 returns c =
     let e = c.before.before in
-    let l = e.before.before.before.before.before in
+    let l = e.before.before.before.before.before.before in
     let f = F l in
     let s = S f in
-    let p1 : Put s.args.out.now 0 (first_lines (H s)) f.put_first.last.0 f.put_first.result = record { ends = omega (arith, f.put_first.ensures.0); stands = f.put_first.ensures.1 } in
-    let p2 = put-more (lost s) _ _ p1 l.put-losses.ensures.0 l.put-losses.ensures.1 in
-    let p3 = put-more (line_text _ (H s).cells) _ _ p2 e.put-line.ensures.0 e.put-line.ensures.1 in
+    let p1 : Put s.args.out.now 0 (first_lines (H s)) f.put_first-first.new.out f.put_first-first.result = record { ends = omega (arith, f.put_first-first.ensures.0); stands = f.put_first-first.ensures.1 } in
+    let p2 = put-more (lost s) _ _ p1 l.put_losses-end.ensures.0 l.put_losses-end.ensures.1 in
+    let p3 = put-more (line_text _ (H s).cells) _ _ p2 e.put_line.ensures.0 e.put_line.ensures.1 in
     put_all (header_text (H s) (some s.args.losses.now)) p3 refl
 
-pub put-lines-spec : {M : Type 1} → statement M
-put-lines-spec =
-    tie.close
-    (tie.spec
-    put-first-requires
-    put-losses-requires
-    slice-aggregate-put-line
-    put-line-requires
-    same_length
-    returns)
+pub put_lines_spec : {M : Type 1} → statement M
+put_lines_spec =
+    tie.close (tie.spec put-first-requires put-losses-requires put-line-requires same_length returns)

@@ -10,14 +10,15 @@ use Rattle.layers.proofs.prediction.columns.Tie as tie
 numbers : (a : tie.Start) → Held (accepted-yes a.args.shape a.requires.0) a.args.sheet a.args.row 0
 numbers a = let ok = accepted-yes a.args.shape a.requires.0 in held ok a.args.sheet a.args.row 0 a.requires.1 a.requires.2 ok.wide
 
-mul-t6 : tie.Need-overflow-mul-t6
+mul-t6 : tie.Need-overflow_mul-result
 mul-t6 c = omega (arith, numbers c)
 
-mul-t7 : tie.Need-overflow-mul-t7
+mul-t7 : tie.Need-overflow_mul-result-2
 mul-t7 c = omega (arith, numbers c)
 
 returns : tie.Need-returns
 returns c = same-crossing _ (columns c.args.shape c.args.sheet c.args.row) (omega arith) (omega arith) (omega arith) (omega arith)
 
 pub columns_spec : {M : Type 1} → statement M
-columns_spec = tie.close (tie.spec mul-t6 mul-t7 returns)
+columns_spec =
+    tie.close (tie.spec mul-t6 mul-t7 returns)

@@ -18,50 +18,50 @@ turned : (a : tie.Start) {dir : Direction} → a.args.direction ≡ dir
     → crossing_of a.args.shape dir a.args.sheet a.args.row ≡ crossing_of a.args.shape a.args.direction a.args.sheet a.args.row
 turned a e = ap (λ (d : Direction). crossing_of a.args.shape d a.args.sheet a.args.row) (sym e)
 
-enum_told : tie.Need-enum-told
+enum_told : tie.Need-enum_told-1
 enum_told c = search rules
 
 columns-requires : tie.Need-columns-requires
 columns-requires c κs = search rules
 
-enum-told-2 : tie.Need-enum-told-2
+enum-told-2 : tie.Need-enum_told-in-Across
 enum-told-2 c = search rules
 
-columns-requires-2 : tie.Need-columns-requires-2
+columns-requires-2 : tie.Need-columns-requires-in-Across
 columns-requires-2 c κs = search rules
 
-enum-told-3 : tie.Need-enum-told-3
+enum-told-3 : tie.Need-enum_told-in-Down
 enum-told-3 c = search rules
 
-columns-requires-3 : tie.Need-columns-requires-3
+columns-requires-3 : tie.Need-columns-requires-in-Down
 columns-requires-3 c κs = search rules
 
-enum-told-4 : tie.Need-enum-told-4
+enum-told-4 : tie.Need-enum_told-in-Between
 enum-told-4 c = search rules
 
-mul-t9 : tie.Need-overflow-mul-t9
-mul-t9 c = omega (arith, numbers c.before.before)
+mul-t9 : tie.Need-overflow_mul-result
+mul-t9 c = omega (arith, numbers c.before)
 
-mul-t10 : tie.Need-overflow-mul-t10
-mul-t10 c = omega (arith, numbers c.before.before)
+mul-t10 : tie.Need-overflow_mul-result-in-Between
+mul-t10 c = omega (arith, numbers c.before)
 
-returns : tie.Need-returns
-returns c = c.columns.ensures ∙ turned c.before.before.before {dir = Anchor} c.before.enum_told.given.1
+returns : tie.Need-returns-in-Anchor
+returns c = c.columns.ensures ∙ turned c.before.before {dir = Anchor} c.before.in-Anchor.is
 
-returns-2 : tie.Need-returns-2
-returns-2 c = c.columns2.ensures ∙ turned c.before.before.before {dir = Across} c.before.enum-told2.given.1
+returns-2 : tie.Need-returns-in-Across
+returns-2 c = c.columns-in-Across.ensures ∙ turned c.before.before {dir = Across} c.before.in-Across.is
 
-returns-3 : tie.Need-returns-3
-returns-3 c = c.columns3.ensures ∙ turned c.before.before.before {dir = Down} c.before.enum-told3.given.1
+returns-3 : tie.Need-returns-in-Down
+returns-3 c = c.columns-in-Down.ensures ∙ turned c.before.before {dir = Down} c.before.in-Down.is
 
-returns-4 : tie.Need-returns-4
+returns-4 : tie.Need-returns-in-Between
 returns-4 c =
-    let a = c.before.before in
+    let a = c.before in
     same-crossing _ (crossing_of a.args.shape Between a.args.sheet a.args.row) (omega arith) (omega arith) (omega arith) (omega arith)
-    ∙ turned a c.enum-told4.given.1
+    ∙ turned a c.in-Between.is
 
-pub crossing-spec : {M : Type 1} → statement M
-crossing-spec =
+pub crossing_spec : {M : Type 1} → statement M
+crossing_spec =
     tie.close
     (tie.spec
     enum_told

@@ -7,16 +7,17 @@ use Rattle.layers.specs.Workings.Calls.{width_of}
 use Rattle.layers.proofs.prediction.width_of.Statement.{statement}
 use Rattle.layers.proofs.prediction.width_of.Tie as tie
 
-returns : tie.Need-returns
+returns : tie.Need-returns-then-step-gt-MOST_STEP
 unfolding width_of
-returns c = rw (lt-leb c.before.args.step step_most c.if1.true)
+returns c = rw (lt-leb c.before.args.step step_most c.if-step-gt-MOST_STEP.true)
 
 width-requires : tie.Need-width-requires
 width-requires c κs = search rules
 
-returns-2 : tie.Need-returns-2
+returns-2 : tie.Need-returns
 unfolding width_of
-returns-2 c = rw (le-leb c.before.before.args.step step_most (omega (arith, c.before.if1.false))) c.width.ensures
+returns-2 c = rw (le-leb c.before.before.args.step step_most (omega (arith, c.before.if-step-gt-MOST_STEP.false))) c.width.ensures
 
-pub width-of-spec : {M : Type 1} → statement M
-width-of-spec = tie.close (tie.spec returns width-requires returns-2)
+pub width_of_spec : {M : Type 1} → statement M
+width_of_spec =
+    tie.close (tie.spec returns width-requires returns-2)

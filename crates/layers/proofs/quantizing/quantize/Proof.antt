@@ -7,7 +7,6 @@ use Prim.Native.Nat.{ℕ}
 use native.Mathlib.Omega.{arith}
 use lib.IntN.{ℤ}
 use borrow.Author.Rules.{rules}
-use borrow.Author.Tests.{not-true, not-false}
 use Rattle.sheet.specs.declared.Shape.{Shape}
 use Rattle.sheet.specs.declared.Curve.{Curve}
 use Rattle.layers.specs.declared.Scan.TheVariants.{Clear}
@@ -38,99 +37,98 @@ Vs a = a.args.values.now
 settled-requires : tie.Need-settled-requires
 settled-requires c κs = search rules
 
-returns : tie.Need-returns
+returns : tie.Need-returns-then-not-settled
 returns c =
     let a = c.before.before in
-    unsettled (Sh a) a.args.curve a.args.step (Xs a) (Qs a) (Vs a) (sym c.before.settled.ensures ∙ not-true _ c.if1.true)
+    unsettled (Sh a) a.args.curve a.args.step (Xs a) (Qs a) (Vs a) (sym c.before.settled.ensures ∙ c.if-not-settled.true)
 
 -- the shape and the step are accepted
-is-settled : (c : tie.Else1) → settled (Sh c.before.before) c.before.before.args.step ≡ true
-is-settled c = sym c.before.settled.ensures ∙ not-false _ c.if1.false
+is-settled : (c : tie.Else-not-settled) → settled (Sh c.before.before) c.before.before.args.step ≡ true
+is-settled c = sym c.before.settled.ensures ∙ c.if-not-settled.false
 
-sheet : (c : tie.Else1) → Sheet (Sh c.before.before)
+sheet : (c : tie.Else-not-settled) → Sheet (Sh c.before.before)
 sheet c = let a = c.before.before in accepted-yes (Sh a) (settled-yes (Sh a) a.args.step (is-settled c)).0
 
-points-requires : tie.Need-points-requires
+points-requires : tie.Need-points-points-requires
 points-requires c κs = search rules
 
 -- a length that is the points' number, or is not
-long : (n : tie.After-points) → n.points.result ≡ points (Sh n.before.before.before)
+long : (n : tie.After-points-points) → n.points-points.result ≡ points (Sh n.before.before.before)
 long n =
     let a = n.before.before.before in
-    n.points.ensures ∙ points-in (Sh a) (settled-yes (Sh a) a.args.step (is-settled n.before)).0
+    n.points-points.ensures ∙ points-in (Sh a) (settled-yes (Sh a) a.args.step (is-settled n.before)).0
 
-returns-2 : tie.Need-returns-2
+returns-2 : tie.Need-returns-then-samples-points
 returns-2 c =
     let n = c.before in
     let a = n.before.before.before in
-    samples-short (Sh a) a.args.curve a.args.step (Xs a) (Qs a) (Vs a) (λ e. c.if2.true (e ∙ sym (long n)))
+    samples-short (Sh a) a.args.curve a.args.step (Xs a) (Qs a) (Vs a) (λ e. c.if-samples-points.true (e ∙ sym (long n)))
 
-returns-3 : tie.Need-returns-3
+returns-3 : tie.Need-returns-then-coefficients-points
 returns-3 c =
     let n = c.before.before in
     let a = n.before.before.before in
-    coefficients-short (Sh a) a.args.curve a.args.step (Xs a) (Qs a) (Vs a) (λ e. c.if3.true (e ∙ sym (long n)))
+    coefficients-short (Sh a) a.args.curve a.args.step (Xs a) (Qs a) (Vs a) (λ e. c.if-coefficients-points.true (e ∙ sym (long n)))
 
-returns-4 : tie.Need-returns-4
+returns-4 : tie.Need-returns-then-values-points
 returns-4 c =
     let n = c.before.before.before in
     let a = n.before.before.before in
-    values-short (Sh a) a.args.curve a.args.step (Xs a) (Qs a) (Vs a) (λ e. c.if4.true (e ∙ sym (long n)))
+    values-short (Sh a) a.args.curve a.args.step (Xs a) (Qs a) (Vs a) (λ e. c.if-values-points.true (e ∙ sym (long n)))
 
 -- every size is right
-abbrev M : tie.Else4 → tie.After-points
+abbrev M : tie.Else-values-points → tie.After-points-points
 M d = d.before.before.before
 
-abbrev A : tie.Else4 → tie.Start
+abbrev A : tie.Else-values-points → tie.Start
 A d = (M d).before.before.before
 
-mul-scan-samples : tie.Need-overflow-mul-scan-samples
+mul-scan-samples : tie.Need-overflow_mul-depth
 mul-scan-samples d = omega (arith, lines-small (sheet (M d).before))
 
-scan-samples-requires : tie.Need-scan-samples-requires
-scan-samples-requires d κs = d.before.before.if2.false ∙ long (M d)
+scan-samples-requires : tie.Need-scan_samples-requires
+scan-samples-requires d κs = d.before.before.if-samples-points.false ∙ long (M d)
 
-all_right : (d : tie.Else4) → (let a = A d in quantizable (Sh a) a.args.step (Xs a) (Qs a) (Vs a) ≡ true)
+all_right : (d : tie.Else-values-points) → (let a = A d in quantizable (Sh a) a.args.step (Xs a) (Qs a) (Vs a) ≡ true)
 all_right d =
     let a = A d in
-    right (Sh a) a.args.curve a.args.step (Xs a) (Qs a) (Vs a) (is-settled (M d).before) (d.before.before.if2.false ∙ long (M d)) (d.before.if3.false ∙ long (M d)) (d.if4.false ∙ long (M d))
+    right (Sh a) a.args.curve a.args.step (Xs a) (Qs a) (Vs a) (is-settled (M d).before) (d.before.before.if-samples-points.false ∙ long (M d)) (d.before.if-coefficients-points.false ∙ long (M d)) (d.if-values-points.false ∙ long (M d))
 
-enum-known-row : tie.Need-enum-known-row
+enum-known-row : tie.Need-enum_known-row
 enum-known-row c = search rules
 
-enum_told : tie.Need-enum-told
+enum_told : tie.Need-enum_told-1
 enum_told c = search rules
 
 laid-requires : tie.Need-laid-requires
 laid-requires c κs = search rules
 
-quantize-layers-requires : tie.Need-quantize-layers-requires
+quantize-layers-requires : tie.Need-quantize_layers-requires
 quantize-layers-requires c κs =
     let l = c.before.before in
     let t = l.before in
-    let s = t.before.before in
+    let s = t.before in
     let d = s.before in
     let a = A d in
-    let clear = samples-by (Sh a) a.args.step (Xs a) (is-settled (M d).before) (d.before.before.if2.false ∙ long (M d)) (sym s.scan-samples.ensures ∙ t.enum_told.given.1) in
-    rw l.laid.ensures (laid-samples (Sh a) clear, (d.before.if3.false ∙ long (M d) ∙ sym (laid-points (Sh a)), d.if4.false ∙ long (M d) ∙ sym (laid-points (Sh a))))
+    let clear = samples-by (Sh a) a.args.step (Xs a) (is-settled (M d).before) (d.before.before.if-samples-points.false ∙ long (M d)) (sym s.scan_samples.ensures ∙ t.in-Clear.is) in
+    rw l.laid.ensures (laid-samples (Sh a) clear, (d.before.if-coefficients-points.false ∙ long (M d) ∙ sym (laid-points (Sh a)), d.if-values-points.false ∙ long (M d) ∙ sym (laid-points (Sh a))))
 
 -- the place that is answered, number by number
 same_place : {row row' col col' : ℕ} → row ≡ row' → col ≡ col' → OutOfRange row col ≡ OutOfRange row' col'
 same_place e f = rw (e, f)
 
-returns-5 : tie.Need-returns-5
+returns-5 : tie.Need-returns-in-OutAt
 returns-5 c =
-    let r = c.before in
-    let s = r.before.before in
+    let s = c.before in
     let d = s.before in
     let a = A d in
-    let e = after-scan (Sh a) a.args.curve a.args.step (Xs a) (Qs a) (Vs a) (all_right d) _ (sym r.row.given.1 ∙ s.scan-samples.ensures) in
+    let e = after-scan (Sh a) a.args.curve a.args.step (Xs a) (Qs a) (Vs a) (all_right d) _ (sym c.in-OutAt.is ∙ s.scan_samples.ensures) in
     (same_place (omega arith) (omega arith) ∙ ap (λ (z : Quantizing). z.answer) (sym e), ap (λ (z : Quantizing). z.coefficients) (sym e), ap (λ (z : Quantizing). z.values) (sym e))
 
-same_length : tie.Need-same-length
+same_length : tie.Need-shape_of-coefficients
 same_length c = search rules
 
-same-length-2 : tie.Need-same-length-2
+same-length-2 : tie.Need-shape_of-values
 same-length-2 c = search rules
 
 -- what is left where the scan is clear, from the shape as it is laid
@@ -138,20 +136,20 @@ done : (sh : Shape) (curve : Curve) (e : ℕ) (xs qs vs : List ℤ) {laid-sh : S
     → laid-sh ≡ laid sh → qs' ≡ coefs (layering laid-sh curve) e xs → vs' ≡ written (layering laid-sh curve) e xs → Comes (quantizing sh curve e xs qs vs) Done qs' vs'
 done sh curve e xs qs vs clear l q v = rw (clear, q, v, l) (refl, laid-coefs sh curve e xs, laid-written sh curve e xs)
 
-returns-6 : tie.Need-returns-6
+returns-6 : tie.Need-returns-in-Clear
 returns-6 c =
     let w = c.before.before in
     let l = w.before.before.before in
     let t = l.before in
-    let s = t.before.before in
+    let s = t.before in
     let d = s.before in
     let a = A d in
     done (Sh a) a.args.curve a.args.step (Xs a) (Qs a) (Vs a)
-    (after-scan (Sh a) a.args.curve a.args.step (Xs a) (Qs a) (Vs a) (all_right d) _ (sym t.enum_told.given.1 ∙ s.scan-samples.ensures))
-    l.laid.ensures w.quantize-layers.ensures.0 w.quantize-layers.ensures.1
+    (after-scan (Sh a) a.args.curve a.args.step (Xs a) (Qs a) (Vs a) (all_right d) _ (sym t.in-Clear.is ∙ s.scan_samples.ensures))
+    l.laid.ensures w.quantize_layers.ensures.0 w.quantize_layers.ensures.1
 
-pub quantize-spec : {M : Type 1} → statement M
-quantize-spec =
+pub quantize_spec : {M : Type 1} → statement M
+quantize_spec =
     tie.close
     (tie.spec
     settled-requires

@@ -12,61 +12,49 @@ use Rattle.layers.specs.Workings.Loops.{column_layer, laid_layer}
 use Rattle.layers.proofs.rebuilding.laid_layer.Statement.{statement}
 use Rattle.layers.proofs.rebuilding.laid_layer.Tie as tie
 
-returns : tie.Need-returns
-returns c = let a = c.before.before.args in rw (ne_eqb a.shape.cols 1 c.if1.true)
+returns : tie.Need-returns-then-shape-ne1
+returns c = let a = c.before.before.args in rw (ne_eqb a.shape.cols 1 c.if-shape-ne1.true)
 
-grid-of-requires : tie.Need-grid-of-requires
+grid-of-requires : tie.Need-grid_of-g-requires
 grid-of-requires c κs = search rules
 
 -- a column's layer of this direction
-column-is : (c : tie.After-grid-of) {dir : Direction} → c.grid-of.result.direction ≡ dir
+column-is : (c : tie.After-grid_of-g) {dir : Direction} → c.grid_of-g.result.direction ≡ dir
     → (let a = c.before.before.before.args in column_layer dir a.layer ≡ laid_layer a.shape a.layer)
 column-is c e =
     let s = c.before.before.before in
     let sh = s.args.shape in
     let k = s.args.layer in
-    let named = ap (λ (g : Grid). g.direction) (c.grid-of.ensures ∙ grid-there sh k s.requires.0 s.requires.1) ∙ (grid-named k (direction sh k) (spacing sh k)).0 in
-    rw (eq-eqb sh.cols 1 c.before.if1.false) (ap (λ (d : Direction). column_layer d k) (sym e ∙ named))
+    let named = ap (λ (g : Grid). g.direction) (c.grid_of-g.ensures ∙ grid-there sh k s.requires.0 s.requires.1) ∙ (grid-named k (direction sh k) (spacing sh k)).0 in
+    rw (eq-eqb sh.cols 1 c.before.if-shape-ne1.false) (ap (λ (d : Direction). column_layer d k) (sym e ∙ named))
 
-enum_told : tie.Need-enum-told
+enum_told : tie.Need-enum_told-1
 enum_told c = search rules
 
-enum-told-2 : tie.Need-enum-told-2
+enum-told-2 : tie.Need-enum_told-in-Across
 enum-told-2 c = search rules
 
-add-result : tie.Need-overflow-add-result
-add-result c = let s = c.before.before.before.before.before in omega (arith, s.requires.1, layers-few s.args.shape (accepted-yes s.args.shape s.requires.0))
+add-result : tie.Need-overflow_add-result
+add-result c = let s = c.before.before.before.before in omega (arith, s.requires.1, layers-few s.args.shape (accepted-yes s.args.shape s.requires.0))
 
-enum-told-3 : tie.Need-enum-told-3
+enum-told-3 : tie.Need-enum_told-in-Down
 enum-told-3 c = search rules
 
-enum-told-4 : tie.Need-enum-told-4
+enum-told-4 : tie.Need-enum_told-in-Between
 enum-told-4 c = search rules
 
-returns-2 : tie.Need-returns-2
-returns-2 c = column-is c.before.before c.enum_told.given.1
+returns-2 : tie.Need-returns-in-Anchor
+returns-2 c = column-is c.before c.in-Anchor.is
 
-returns-3 : tie.Need-returns-3
-returns-3 c = column-is c.before.before c.enum-told2.given.1
+returns-3 : tie.Need-returns-in-Across
+returns-3 c = column-is c.before c.in-Across.is
 
-returns-4 : tie.Need-returns-4
-returns-4 c = column-is c.before.before c.enum-told3.given.1
+returns-4 : tie.Need-returns-in-Down
+returns-4 c = column-is c.before c.in-Down.is
 
-returns-5 : tie.Need-returns-5
-returns-5 c = column-is c.before.before c.enum-told4.given.1
+returns-5 : tie.Need-returns-in-Between
+returns-5 c = column-is c.before c.in-Between.is
 
-pub laid-layer-spec : {M : Type 1} → statement M
-laid-layer-spec =
-    tie.close
-    (tie.spec
-    returns
-    grid-of-requires
-    enum_told
-    enum-told-2
-    add-result
-    enum-told-3
-    enum-told-4
-    returns-2
-    returns-3
-    returns-4
-    returns-5)
+pub laid_layer_spec : {M : Type 1} → statement M
+laid_layer_spec =
+    tie.close (tie.spec returns grid-of-requires enum_told enum-told-2 add-result enum-told-3 enum-told-4 returns-2 returns-3 returns-4 returns-5)

@@ -6,7 +6,6 @@ use Prim.Native.Nat.{ℕ, ◌≤◌}
 use lib.IntN.{ℤ}
 use lib.ListN.{length}
 use borrow.Author.Rules.{rules}
-use borrow.Author.Tests.{not-true, not-false}
 use Rattle.sheet.specs.declared.Shape.{Shape}
 use Rattle.sheet.specs.declared.Curve.{Curve}
 use Rattle.sheet.specs.Limits.{step_most}
@@ -50,57 +49,57 @@ module _ (sh : Shape) (e : ℕ) (qs vs : List ℤ) where
 settled-requires : tie.Need-settled-requires
 settled-requires c κs = search rules
 
-returns : tie.Need-returns
+returns : tie.Need-returns-then-not-settled
 returns c =
     let a = c.before.before in
     let qs = a.args.coefficients.now in
     let vs = a.args.values.now in
     refused a.args.shape a.args.step qs vs a.args.curve a.args.more.now
-    (no-shape a.args.shape a.args.step qs vs (sym c.before.settled.ensures ∙ not-true c.before.settled.result c.if1.true))
+    (no-shape a.args.shape a.args.step qs vs (sym c.before.settled.ensures ∙ c.if-not-settled.true))
 
 -- where the shape and the step are accepted
-abbrev A : tie.Else1 → tie.Start
+abbrev A : tie.Else-not-settled → tie.Start
 A s = s.before.before
 
-yes : (s : tie.Else1) → settled (A s).args.shape (A s).args.step ≡ true
-yes s = sym s.before.settled.ensures ∙ not-false s.before.settled.result s.if1.false
+yes : (s : tie.Else-not-settled) → settled (A s).args.shape (A s).args.step ≡ true
+yes s = sym s.before.settled.ensures ∙ s.if-not-settled.false
 
-ok : (s : tie.Else1) → (accepted (A s).args.shape ≡ true) × ((A s).args.step ≤ step_most)
+ok : (s : tie.Else-not-settled) → (accepted (A s).args.shape ≡ true) × ((A s).args.step ≤ step_most)
 ok s = settled-yes (A s).args.shape (A s).args.step (yes s)
 
-points-requires : tie.Need-points-requires
+points-requires : tie.Need-points-points-requires
 points-requires c κs = search rules
 
 -- a length that is the points' number, or is not
-long : (n : tie.After-points) → n.points.result ≡ points (A n.before).args.shape
-long n = n.points.ensures ∙ points-in (A n.before).args.shape (ok n.before).0
+long : (n : tie.After-points-points) → n.points-points.result ≡ points (A n.before).args.shape
+long n = n.points-points.ensures ∙ points-in (A n.before).args.shape (ok n.before).0
 
-returns-2 : tie.Need-returns-2
+returns-2 : tie.Need-returns-then-coefficients-points
 returns-2 c =
     let n = c.before in
     let a = A n.before in
     let qs = a.args.coefficients.now in
     let vs = a.args.values.now in
-    refused a.args.shape a.args.step qs vs a.args.curve a.args.more.now (no-coefficients a.args.shape a.args.step qs vs (λ e. c.if2.true (e ∙ sym (long n))))
+    refused a.args.shape a.args.step qs vs a.args.curve a.args.more.now (no-coefficients a.args.shape a.args.step qs vs (λ e. c.if-coefficients-points.true (e ∙ sym (long n))))
 
-returns-3 : tie.Need-returns-3
+returns-3 : tie.Need-returns-then-values-points
 returns-3 c =
     let n = c.before.before in
     let a = A n.before in
     let qs = a.args.coefficients.now in
     let vs = a.args.values.now in
-    refused a.args.shape a.args.step qs vs a.args.curve a.args.more.now (no-values a.args.shape a.args.step qs vs (λ e. c.if3.true (e ∙ sym (long n))))
+    refused a.args.shape a.args.step qs vs a.args.curve a.args.more.now (no-values a.args.shape a.args.step qs vs (λ e. c.if-values-points.true (e ∙ sym (long n))))
 
-rebuild-layers-requires : tie.Need-rebuild-layers-requires
+rebuild-layers-requires : tie.Need-rebuild_layers-requires
 rebuild-layers-requires c κs =
     let e = c.before in
     let n = e.before.before in
-    (ok n.before, (e.before.if2.false ∙ long n, e.if3.false ∙ long n))
+    (ok n.before, (e.before.if-coefficients-points.false ∙ long n, e.if-values-points.false ∙ long n))
 
-same_length : tie.Need-same-length
+same_length : tie.Need-shape_of-values
 same_length c = search rules
 
-returns-4 : tie.Need-returns-4
+returns-4 : tie.Need-returns
 returns-4 c =
     let e = c.before.before.before in
     let n = e.before.before in
@@ -109,17 +108,8 @@ returns-4 c =
     let qs = a.args.coefficients.now in
     let vs = a.args.values.now in
     done a.args.shape a.args.step qs vs a.args.curve a.args.more.now
-    (all_there a.args.shape a.args.step qs vs (yes s) (e.before.if2.false ∙ long n) (e.if3.false ∙ long n)) c.before.rebuild-layers.ensures
+    (all_there a.args.shape a.args.step qs vs (yes s) (e.before.if-coefficients-points.false ∙ long n) (e.if-values-points.false ∙ long n)) c.before.rebuild_layers.ensures
 
-pub rebuild-spec : {M : Type 1} → statement M
-rebuild-spec =
-    tie.close
-    (tie.spec
-    settled-requires
-    returns
-    points-requires
-    returns-2
-    returns-3
-    rebuild-layers-requires
-    same_length
-    returns-4)
+pub rebuild_spec : {M : Type 1} → statement M
+rebuild_spec =
+    tie.close (tie.spec settled-requires returns points-requires returns-2 returns-3 rebuild-layers-requires same_length returns-4)

@@ -6,7 +6,7 @@ use native.Mathlib.Nat.{mod-eq_of_lt, add-mod_right}
 use native.Mathlib.Omega.{arith}
 use lib.IntN.{ℤ, pos, ◌+ℤ◌}
 use mir.Facts.{to_z-of_z}
-use mir.Syntax.{w32}
+use mir.Syntax.{w32, w64}
 use mir.Val.{to_z, of_z}
 use borrow.Author.Rules.{sfits_of}
 use Rattle.integers.specs.Distance.{Within}
@@ -32,12 +32,12 @@ use Rattle.layers.proofs.Results.{result-is, result-within}
 use Rattle.layers.proofs.rebuilding.rebuild_along.Statement.{statement}
 use Rattle.layers.proofs.rebuilding.rebuild_along.Tie as tie
 
-abbrev invariant-loop : tie.invariant-loop
+abbrev invariant-loop : tie.invariant-loop-col
 invariant-loop coefficients shape curve step more g sheet row values₀ cols s col₀ values col =
     (col % g.right ≡ g.col)
     × PartSwept (in_row shape (sheet * shape.rows + row)) (in_place (layering shape curve) g.layer (reads_with (to_z w32 more) step coefficients)) values₀ (row_reach shape sheet row col) values
 
-abbrev decreases-loop : tie.decreases-loop
+abbrev decreases-loop : tie.decreases-loop-col
 decreases-loop coefficients shape curve step more g sheet row values₀ cols s col₀ values col = cols - col
 
 abbrev A : Type 0
@@ -69,13 +69,13 @@ abbrev More : A → ℤ
 More a = to_z w32 (of_z w32 a.args.more)
 
 more-is : (a : A) → More a ≡ a.args.more
-more-is a = to_z-of_z a.fits.more
+more-is a = to_z-of_z a.ranges.more
 
 abbrev F : A → ℤ → ℕ → ℤ
 F a = reads_with (More a) a.args.step a.args.coefficients.now
 
 row : (a : A) → AtRow (Sh a) (K a) (G a) (Z a) (R a)
-row a = a.pre.0.0
+row a = a.requires.0.0
 
 below : (a : A) → K a < layers (Sh a)
 below a = (row a).sheet.layer.layer
@@ -83,24 +83,24 @@ below a = (row a).sheet.layer.layer
 local : (a : A) → Local (pos 0) (points (Sh a)) (in_place (layering (Sh a) (Cv a)) (K a) (F a)) (in_layer (Sh a) (K a))
 local a = values-local (sheet-proper (Sh a) (row a).sheet.layer.shape (Cv a)) (K a) (below a) (F a)
 
-loop-holds : tie.Need-loop-init invariant-loop decreases-loop
+loop-holds : tie.Need-loop-col-init invariant-loop decreases-loop
 loop-holds c = (mod-eq_of_lt (good (row c).sheet.layer).col, row-start (row c) (local c) (Vs c))
 
 -- ---- in the loop
 abbrev I : Type 0
-I = tie.In-loop invariant-loop decreases-loop
+I = tie.In-loop-col invariant-loop decreases-loop
 
 abbrev S : I → A
 S i = i.before.before
 
 abbrev Col : I → ℕ
-Col i = i.before.loop.col
+Col i = i.before.loop-col.col
 
 abbrev Now : I → List ℤ
-Now i = i.before.loop.values
+Now i = i.before.loop-col.values
 
 point : (i : I) → (let a = S i in AtPoint (Sh a) (K a) (G a) (Z a) (R a) (Col i))
-point i = row-point (row (S i)) (Col i) i.loop-test.taken i.before.loop.inv.0
+point i = row-point (row (S i)) (Col i) i.loop-col-test.true i.before.loop-col.invariant.0
 
 spot : (i : I) → (let a = S i in Spot (Sh a) (K a) (Z a) (R a) (Col i))
 spot i = spot_of (point i)
@@ -108,7 +108,7 @@ spot i = spot_of (point i)
 low : (i : I) → (let a = S i in Below value_most (Sh a) (Cv a) (K a) (Now i))
 low i =
     let a = S i in
-    still-below (row a).sheet.layer (Cv a) value_most (Vs a) (Now i) a.pre.1.2 (row-outside (row a) (local a) i.before.loop.inv.1)
+    still-below (row a).sheet.layer (Cv a) value_most (Vs a) (Now i) a.requires.1.2 (row-outside (row a) (local a) i.before.loop-col.invariant.1)
 
 abbrev Pr : I → ℤ
 Pr i = let a = S i in predicted (Sh a) (Cv a) (direction (Sh a) (K a)) (spacing (Sh a) (K a)) (Now i) (Z a) (R a) (Col i)
@@ -120,83 +120,83 @@ near i = predicted-low (spot i) (Cv (S i)) (Now i) (low i)
 numbers : (i : I) → Held (layer-sheet (row (S i)).sheet.layer) (Z (S i)) (R (S i)) (Col i)
 numbers i = let p = spot i in held (layer-sheet (row (S i)).sheet.layer) (Z (S i)) (R (S i)) (Col i) p.sheet p.row p.col
 
-mul-start : tie.Need-overflow-mul-start invariant-loop decreases-loop
+mul-start : tie.Need-overflow_mul-start invariant-loop decreases-loop
 mul-start c = omega (arith, numbers c)
 
-add_start : tie.Need-overflow-add-start invariant-loop decreases-loop
+add_start : tie.Need-overflow_add-start invariant-loop decreases-loop
 add_start c = omega (arith, numbers c)
 
-mul-start-2 : tie.Need-overflow-mul-start-2 invariant-loop decreases-loop
+mul-start-2 : tie.Need-overflow_mul-start-in-loop-col invariant-loop decreases-loop
 mul-start-2 c = omega (arith, numbers c)
 
-add-p : tie.Need-overflow-add-p invariant-loop decreases-loop
+add-p : tie.Need-overflow_add-p invariant-loop decreases-loop
 add-p c = omega (arith, numbers c)
 
-predict-along-requires : tie.Need-predict-along-requires invariant-loop decreases-loop
+predict-along-requires : tie.Need-predict_along-y-requires invariant-loop decreases-loop
 predict-along-requires c κs =
-    let i = c.before in
-    row_line (point i) (Cv (S i)) (Now i) (S i).requires.0.2 (i.before.loop.invariant.1.same ∙ (S i).requires.1.1) (low i)
+    let i = c in
+    row_line (point i) (Cv (S i)) (Now i) (S i).requires.0.2 (i.before.loop-col.invariant.1.same ∙ (S i).requires.1.1) (low i)
 
 -- what the call answers is what is predicted there
 is-predicted : (i : I) → (let a = S i in line (Cv a) (Now i) ((Z a * (Sh a).rows + R a) * (Sh a).cols) 1 (Sh a).cols (Col i) (G a).spacing ≡ Pr i)
-is-predicted i = row-predicted (point i) (Cv (S i)) (Now i) (S i).pre.0.2
+is-predicted i = row-predicted (point i) (Cv (S i)) (Now i) (S i).requires.0.2
 
-mul-value-with : tie.Need-overflow-mul-value-with invariant-loop decreases-loop
-mul-value-with c = omega (arith, point-spot (spot c.before.before))
+mul-value-with : tie.Need-offset_bounds-coefficients-p invariant-loop decreases-loop
+mul-value-with c = omega (arith, point-spot (spot c.before))
 
-shared-slice-copy-out-value-with : tie.Need-shared-slice-copy-out-value-with invariant-loop decreases-loop
-shared-slice-copy-out-value-with c = let i = c.before.before in omega (arith, point-spot (spot i), (S i).requires.1.0)
+shared-slice-copy-out-value-with : tie.Need-bounds-coefficients-p invariant-loop decreases-loop
+shared-slice-copy-out-value-with c = let i = c.before in omega (arith, point-spot (spot i), (S i).requires.1.0)
 
-value-with-requires : tie.Need-value-with-requires invariant-loop decreases-loop
+value-with-requires : tie.Need-value_with-v-requires invariant-loop decreases-loop
 value-with-requires c κs =
-    let i = c.before.before.before in
-    (result-within {y = Pr i} c.before.predict-along.type-inv (c.before.predict-along.ensures ∙ is-predicted i) (near i), (S i).requires.0.1)
+    let i = c.before.before in
+    (result-within {y = Pr i} c.before.predict_along-y.type_inv (c.before.predict_along-y.ensures ∙ is-predicted i) (near i), (S i).requires.0.1)
 
-mul-v : tie.Need-overflow-mul-v invariant-loop decreases-loop
-mul-v c = omega (arith, point-spot (spot c.before.before.before.before))
+mul-v : tie.Need-offset_bounds-values-p invariant-loop decreases-loop
+mul-v c = omega (arith, point-spot (spot c.before.before.before))
 
-slice-set-from-v : tie.Need-slice-set-from-v invariant-loop decreases-loop
+slice-set-from-v : tie.Need-bounds-values-p invariant-loop decreases-loop
 slice-set-from-v c =
-    let i = c.before.before.before.before in
-    omega (arith, point-spot (spot i), i.before.loop.invariant.1.same, (S i).requires.1.1)
+    let i = c.before.before.before in
+    omega (arith, point-spot (spot i), i.before.loop-col.invariant.1.same, (S i).requires.1.1)
 
-add-col : tie.Need-overflow-add-col invariant-loop decreases-loop
+add-col : tie.Need-overflow_add-col invariant-loop decreases-loop
 add-col c =
-    let i = c.before.before.before.before.before in
-    omega (arith, i.loop-test.true, cols-small (accepted-yes (Sh (S i)) (row (S i)).sheet.layer.shape), (good (row (S i)).sheet.layer).col-small)
+    let i = c.before.before.before.before in
+    omega (arith, i.loop-col-test.true, cols-small (accepted-yes (Sh (S i)) (row (S i)).sheet.layer.shape), (good (row (S i)).sheet.layer).col-small)
 
-loop-less : tie.Need-loop-smaller invariant-loop decreases-loop
+loop-less : tie.Need-loop-col-smaller invariant-loop decreases-loop
 loop-less c =
-    let i = c.before.before.before.before.before in
-    omega (arith, i.loop-test.true, (good (row (S i)).sheet.layer).col)
+    let i = c.before.before.before.before in
+    omega (arith, i.loop-col-test.true, (good (row (S i)).sheet.layer).col)
 
-loop-again : tie.Need-loop-preserved invariant-loop decreases-loop
+loop-again : tie.Need-loop-col-preserved invariant-loop decreases-loop
 loop-again c =
     let d = c.before in
     let y = d.before.before in
-    let i = d.before.before.before.before in
+    let i = d.before.before.before in
     let a = S i in
     let x = Col i in
-    let y-is = result-is {y = Pr i} y.predict-along.type-inv (y.predict-along.ensures ∙ is-predicted i) in
+    let y-is = result-is {y = Pr i} y.predict_along-y.type_inv (y.predict_along-y.ensures ∙ is-predicted i) in
     let q = at a.args.coefficients.now (place (Sh a) (Z a) (R a) x) in
-    let q-is : to_z w32 (of_z w32 q) ≡ q = to_z-of_z (sfits_of d.before.value-with-arg.given) in (
-      add-mod_right x (G a).right ∙ i.before.loop.invariant.0,
-      row_step (row a) (local a) x i.loop-test.true i.before.loop.invariant.0 a.pre.1.1 _
-          (to_z-of_z (sfits_of d.value-with.type-inv) ∙ d.value-with.ensures ∙ ap₂ (λ (p q : ℤ). rebuilt_from p (q +ℤ More a) a.args.step) y-is q-is
+    let q-is : to_z w32 (of_z w32 q) ≡ q = to_z-of_z {w = w32} (sfits_of d.before.value_with-arg-1.given) in (
+      add-mod_right x (G a).right ∙ i.before.loop-col.invariant.0,
+      row_step (row a) (local a) x i.loop-col-test.true i.before.loop-col.invariant.0 a.requires.1.1 _
+          (to_z-of_z {w = w64} (sfits_of d.value_with-v.type_inv) ∙ d.value_with-v.ensures ∙ ap₂ (λ (p q : ℤ). rebuilt_from p (q +ℤ More a) a.args.step) y-is q-is
           ∙ sym (point-here (spot i) (Cv a) (F a) (Now i) (Now i)))
-          i.before.loop.invariant.1,
+          i.before.loop-col.invariant.1,
     )
 
-same_length : tie.Need-same-length invariant-loop decreases-loop
-same_length c = c.before.loop.invariant.1.same
+same_length : tie.Need-shape_of-values invariant-loop decreases-loop
+same_length c = c.before.loop-col.invariant.1.same
 
 returns : tie.Need-returns invariant-loop decreases-loop
 unfolding part_by
 returns c = let l = c.before in let a = l.before in
-    rw (more-is a) at (row-end (row a) (local a) l.loop.col c.loop-test.false l.loop.invariant.1)
+    rw (more-is a) at (row-end (row a) (local a) l.loop-col.col c.loop-col-test.false l.loop-col.invariant.1)
 
-pub rebuild-along-spec : {M : Type 1} → statement M
-rebuild-along-spec =
+pub rebuild_along_spec : {M : Type 1} → statement M
+rebuild_along_spec =
     tie.close
     (tie.spec
     invariant-loop

@@ -19,13 +19,13 @@ fits s = omega (arith, length_most s.args.figure (omega arith))
 blank-requires : tie.Need-blank-requires
 blank-requires c κs = search rules
 
-put-pairs-requires : tie.Need-put-pairs-requires
+put-pairs-requires : tie.Need-put_pairs-requires
 put-pairs-requires c κs =
     let b = c.before.before.before in
     let s = b.before.before.before in
     (fits s, omega (arith, s.requires.0, ap length b.blank.ensures, length-sets s.args.page.now 0 blank_line), s.requires.1)
 
-same_length : tie.Need-same-length
+same_length : tie.Need-shape_of-page
 same_length c = search rules
 
 returns : tie.Need-returns
@@ -33,7 +33,8 @@ returns c =
     let p = c.before.before in
     let b = p.before.before.before.before in
     let s = b.before.before.before in
-    figure-put s.args.page.now s.args.figure (fits s) b.blank.ensures p.put-pairs.ensures.1
+    figure-put s.args.page.now s.args.figure (fits s) b.blank.ensures p.put_pairs.ensures.1
 
-pub figure-line-spec : {M : Type 1} → statement M
-figure-line-spec = tie.close (tie.spec blank-requires put-pairs-requires same_length returns)
+pub figure_line_spec : {M : Type 1} → statement M
+figure_line_spec =
+    tie.close (tie.spec blank-requires put-pairs-requires same_length returns)

@@ -11,16 +11,16 @@ use Rattle.roll.proofs.Fields.{row_made}
 use Rattle.roll.proofs.printing.row_line.Statement.{statement}
 use Rattle.roll.proofs.printing.row_line.Tie as tie
 
-slice-aggregate-blank : tie.Need-slice-aggregate-blank
+slice-aggregate-blank : tie.Need-slice_bounds-blank-end
 slice-aggregate-blank c = search rules
 
 blank-requires : tie.Need-blank-requires
 blank-requires c κs = search rules
 
-slice-aggregate-put-pairs : tie.Need-slice-aggregate-put-pairs
+slice-aggregate-put-pairs : tie.Need-slice_bounds-put_pairs-end
 slice-aggregate-put-pairs c = search rules
 
-put-pairs-requires : tie.Need-put-pairs-requires
+put-pairs-requires : tie.Need-put_pairs-requires
 put-pairs-requires c κs =
     let b = c.before.before in
     let s = b.before.before in
@@ -31,14 +31,8 @@ returns c =
     let p = c.before in
     let b = p.before.before.before in
     let s = b.before.before in
-    row_made s.args.row s.requires.0 b.blank.ensures p.put-pairs.ensures.1
+    row_made s.args.row s.requires.0 b.blank.ensures p.put_pairs.ensures.1
 
-pub row-line-spec : {M : Type 1} → statement M
-row-line-spec =
-    tie.close
-    (tie.spec
-    slice-aggregate-blank
-    blank-requires
-    slice-aggregate-put-pairs
-    put-pairs-requires
-    returns)
+pub row_line_spec : {M : Type 1} → statement M
+row_line_spec =
+    tie.close (tie.spec slice-aggregate-blank blank-requires slice-aggregate-put-pairs put-pairs-requires returns)
