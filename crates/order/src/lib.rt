@@ -1,4 +1,7 @@
 // Where each plane of a card stands, in card order, and the planes that are whole in the bytes behind a header.
+
+#![tactic(auto)]
+
 ghost use Rattle.std.specs.Prelude.{◌≡◌, cond, ℕ, ◌<◌, ◌≤◌, leb, ltb, get_or};
 ghost use Rattle.sheet.specs.Limits.{layers_most};
 ghost use Rattle.header.specs.Header as Hd;

@@ -1,4 +1,7 @@
 // Decimal numbers, lists of them and lines of text, read strictly and written in one way. Nothing here can wrap, whatever the text.
+
+#![tactic(auto)]
+
 ghost use Rattle.std.specs.Prelude.{◌≡◌, ◌+◌, drop};
 ghost use Rattle.text.specs.Decimal as D;
 ghost use Rattle.text.specs.Line as L;

@@ -3,11 +3,12 @@ use borrow.Author.Tests.{lt-ltb, le-ltb}
 use Rattle.order.proofs.span_at.Statement.{statement}
 use Rattle.order.proofs.span_at.Tie as tie
 
-returns : tie.Need-returns
-returns c = rw (lt-ltb _ _ c.if1.true)
+returns : tie.Need-returns-then-p-count
+returns c = rw (lt-ltb _ _ c.if-p-count.true)
 
-returns-2 : tie.Need-returns-2
-returns-2 c = rw (le-ltb _ _ c.if1.false)
+returns-2 : tie.Need-returns
+returns-2 c = rw (le-ltb _ _ c.if-p-count.false)
 
-pub span-at-spec : {M : Type 1} → statement M
-span-at-spec = tie.close (tie.spec returns returns-2)
+pub span_at_spec : {M : Type 1} → statement M
+span_at_spec =
+    tie.close (tie.spec returns returns-2)

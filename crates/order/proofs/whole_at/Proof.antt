@@ -8,75 +8,75 @@ use Rattle.order.proofs.Walk.{cells-on, found-on, walk-on}
 use Rattle.order.proofs.whole_at.Statement.{statement}
 use Rattle.order.proofs.whole_at.Tie as tie
 
-abbrev invariant-loop : tie.invariant-loop
+abbrev invariant-loop : tie.invariant-loop-k
 invariant-loop p room spans counts planes₀ cells₀ k₀ planes cells k = (k ≤ layers_most) × Walked spans counts room k p planes cells
 
-abbrev decreases-loop : tie.decreases-loop
+abbrev decreases-loop : tie.decreases-loop-k
 decreases-loop p room spans counts planes₀ cells₀ k₀ planes cells k = layers_most - k
 
-loop-holds : tie.Need-loop-init invariant-loop decreases-loop
+loop-holds : tie.Need-loop-k-init invariant-loop decreases-loop
 loop-holds c = (omega arith, c.before.requires.1)
 
-mul-span-at : tie.Need-overflow-mul-span-at invariant-loop decreases-loop
+mul-span-at : tie.Need-offset_bounds-spans-k invariant-loop decreases-loop
 mul-span-at c = omega arith
 
-array-read-span-at : tie.Need-array-read-span-at invariant-loop decreases-loop
+array-read-span-at : tie.Need-bounds-spans-k invariant-loop decreases-loop
 array-read-span-at c = omega arith
 
-mul-span-at-2 : tie.Need-overflow-mul-span-at-2 invariant-loop decreases-loop
+mul-span-at-2 : tie.Need-offset_bounds-counts-k invariant-loop decreases-loop
 mul-span-at-2 c = omega arith
 
-array-read-span-at-2 : tie.Need-array-read-span-at-2 invariant-loop decreases-loop
+array-read-span-at-2 : tie.Need-bounds-counts-k invariant-loop decreases-loop
 array-read-span-at-2 c = omega arith
 
-span-at-requires : tie.Need-span-at-requires invariant-loop decreases-loop
+span-at-requires : tie.Need-span_at-cells-requires invariant-loop decreases-loop
 span-at-requires c κs = tt
 
-add-cells : tie.Need-overflow-add-cells invariant-loop decreases-loop
+add-cells : tie.Need-overflow_add-cells invariant-loop decreases-loop
 add-cells c =
     let l = c.before.before in
-    omega (arith, cells-on l.loop.invariant.1 c.before.loop-test.true c.span-at.ensures l.before.before.requires.0)
+    omega (arith, cells-on l.loop-k.invariant.1 c.before.loop-k-test.true c.span_at-cells.ensures l.before.before.requires.0)
 
-mul-whole-count : tie.Need-overflow-mul-whole-count invariant-loop decreases-loop
+mul-whole-count : tie.Need-offset_bounds-counts-k-in-loop-k invariant-loop decreases-loop
 mul-whole-count c = omega arith
 
-array-read-whole-count : tie.Need-array-read-whole-count invariant-loop decreases-loop
+array-read-whole-count : tie.Need-bounds-counts-k-in-loop-k invariant-loop decreases-loop
 array-read-whole-count c = omega arith
 
-whole-count-requires : tie.Need-whole-count-requires invariant-loop decreases-loop
+whole-count-requires : tie.Need-whole_count-requires invariant-loop decreases-loop
 whole-count-requires c κs = tt
 
-mul-planes : tie.Need-overflow-mul-planes invariant-loop decreases-loop
+mul-planes : tie.Need-offset_bounds-planes-k invariant-loop decreases-loop
 mul-planes c = omega arith
 
-array-read-planes : tie.Need-array-read-planes invariant-loop decreases-loop
+array-read-planes : tie.Need-bounds-planes-k invariant-loop decreases-loop
 array-read-planes c = omega arith
 
-add-planes : tie.Need-overflow-add-planes invariant-loop decreases-loop
+add-planes : tie.Need-overflow_add-planes invariant-loop decreases-loop
 add-planes c =
     let l = c.before.before.before in
-    omega (arith, found-on l.loop.invariant.1 c.before.before.loop-test.true c.before.span-at.ensures c.whole-count.ensures l.before.before.requires.0)
+    omega (arith, found-on l.loop-k.invariant.1 c.before.before.loop-k-test.true c.before.span_at-cells.ensures c.whole_count.ensures l.before.before.requires.0)
 
-array-write-planes : tie.Need-array-write-planes invariant-loop decreases-loop
+array-write-planes : tie.Need-bounds-planes-k-in-loop-k invariant-loop decreases-loop
 array-write-planes c = omega arith
 
-add-k : tie.Need-overflow-add-k invariant-loop decreases-loop
+add-k : tie.Need-overflow_step-k invariant-loop decreases-loop
 add-k c = omega arith
 
-loop-less : tie.Need-loop-smaller invariant-loop decreases-loop
+loop-less : tie.Need-loop-k-smaller invariant-loop decreases-loop
 loop-less c = omega arith
 
-loop-again : tie.Need-loop-preserved invariant-loop decreases-loop
-loop-again c = (omega arith, walk-on c.before.before.before.loop.invariant.1 c.before.before.loop-test.true c.before.span-at.ensures c.whole-count.ensures)
+loop-again : tie.Need-loop-k-preserved invariant-loop decreases-loop
+loop-again c = (omega arith, walk-on c.before.before.before.loop-k.invariant.1 c.before.before.loop-k-test.true c.before.span_at-cells.ensures c.whole_count.ensures)
 
 returns : tie.Need-returns invariant-loop decreases-loop
 returns c =
     let l = c.before in
-    let all : l.loop.k ≡ layers_most = omega (arith, l.loop.invariant.0, c.loop-test.false) in
-    rw all at l.loop.invariant.1
+    let all : l.loop-k.k ≡ layers_most = omega (arith, l.loop-k.invariant.0, c.loop-k-test.false) in
+    rw all at l.loop-k.invariant.1
 
-pub whole-at-spec : {M : Type 1} → statement M
-whole-at-spec =
+pub whole_at_spec : {M : Type 1} → statement M
+whole_at_spec =
     tie.close
     (tie.spec
     invariant-loop

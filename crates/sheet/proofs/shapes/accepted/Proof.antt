@@ -8,13 +8,14 @@ use Rattle.sheet.proofs.shapes.accepted.Tie as tie
 sized-requires : tie.Need-sized-requires
 sized-requires c κs = search rules
 
-returns : tie.Need-returns
+returns : tie.Need-returns-then-sized
 unfolding accepted
-returns c = simp (sym c.before.before.sized.ensures ∙ c.before.if1.true)
+returns c = simp (sym c.before.before.sized.ensures ∙ c.before.if-sized.true)
 
-returns-2 : tie.Need-returns-2
+returns-2 : tie.Need-returns
 unfolding accepted
-returns-2 c = simp (sym c.before.sized.ensures ∙ c.if1.false)
+returns-2 c = simp (sym c.before.sized.ensures ∙ c.if-sized.false)
 
-pub accepted-spec : {M : Type 1} → statement M
-accepted-spec = tie.close (tie.spec sized-requires returns returns-2)
+pub accepted_spec : {M : Type 1} → statement M
+accepted_spec =
+    tie.close (tie.spec sized-requires returns returns-2)

@@ -10,19 +10,20 @@ use Rattle.sheet.proofs.shapes.has_layer.Tie as tie
 accepted-requires : tie.Need-accepted-requires
 accepted-requires c κs = search rules
 
-layer-count-requires : tie.Need-layer-count-requires
+layer-count-requires : tie.Need-layer_count-requires
 layer-count-requires c κs = search rules
 
-returns : tie.Need-returns
+returns : tie.Need-returns-then-accepted
 returns c =
     let i = c.before in
     let sh = i.before.before.args.shape in
-    let yes : accepted sh ≡ true = sym i.before.accepted.ensures ∙ i.if1.true in
-    let all : c.layer-count.result ≡ layers sh = c.layer-count.ensures ∙ count-is sh yes in
+    let yes : accepted sh ≡ true = sym i.before.accepted.ensures ∙ i.if-accepted.true in
+    let all : c.layer_count.result ≡ layers sh = c.layer_count.ensures ∙ count-is sh yes in
     simp (yes, all)
 
-returns-2 : tie.Need-returns-2
-returns-2 c = simp (sym c.before.accepted.ensures ∙ c.if1.false)
+returns-2 : tie.Need-returns
+returns-2 c = simp (sym c.before.accepted.ensures ∙ c.if-accepted.false)
 
-pub has-layer-spec : {M : Type 1} → statement M
-has-layer-spec = tie.close (tie.spec accepted-requires layer-count-requires returns returns-2)
+pub has_layer_spec : {M : Type 1} → statement M
+has_layer_spec =
+    tie.close (tie.spec accepted-requires layer-count-requires returns returns-2)

@@ -8,16 +8,16 @@ use Rattle.sheet.proofs.LinePoints.{rows-lined}
 use Rattle.sheet.proofs.sizes.layer_size.Statement.{statement}
 use Rattle.sheet.proofs.sizes.layer_size.Tie as tie
 
-rows : (c : tie.After-row-lines) → (let a = c.before.args in Lined a.shape a.layer c.row-lines.result)
-rows c = let a = c.before.args in subst (Lined a.shape a.layer) (sym c.row-lines.ensures) (rows-lined a.shape a.layer)
+rows : (c : tie.After-row_lines-l) → (let a = c.before.args in Lined a.shape a.layer c.row_lines-l.result)
+rows c = let a = c.before.args in subst (Lined a.shape a.layer) (sym c.row_lines-l.ensures) (rows-lined a.shape a.layer)
 
-row-lines-requires : tie.Need-row-lines-requires
+row-lines-requires : tie.Need-row_lines-l-requires
 row-lines-requires c κs = search rules
 
-mul-result : tie.Need-overflow-mul-result
+mul-result : tie.Need-overflow_mul-result
 mul-result c = omega (arith, (rows c.before).few)
 
-mul-result-2 : tie.Need-overflow-mul-result-2
+mul-result-2 : tie.Need-overflow_mul-result-2
 mul-result-2 c =
     let r = c.before.before in
     let a = r.before.args in
@@ -26,5 +26,6 @@ mul-result-2 c =
 returns : tie.Need-returns
 returns c = (rows c.before.before).size
 
-pub layer-size-spec : {M : Type 1} → statement M
-layer-size-spec = tie.close (tie.spec row-lines-requires mul-result mul-result-2 returns)
+pub layer_size_spec : {M : Type 1} → statement M
+layer_size_spec =
+    tie.close (tie.spec row-lines-requires mul-result mul-result-2 returns)

@@ -8,27 +8,27 @@ use Rattle.text.proofs.Digits.{length-one, length_two, length_most}
 use Rattle.text.proofs.joined.characters.Statement.{statement}
 use Rattle.text.proofs.joined.characters.Tie as tie
 
-abbrev invariant-loop : tie.invariant-loop
+abbrev invariant-loop : tie.invariant-loop-rest
 invariant-loop n count₀ rest₀ count rest = count + length (decimal rest) ≡ length (decimal n) + 1
 
-abbrev decreases-loop : tie.decreases-loop
+abbrev decreases-loop : tie.decreases-loop-rest
 decreases-loop n count₀ rest₀ count rest = rest
 
-loop-holds : tie.Need-loop-init invariant-loop decreases-loop
+loop-holds : tie.Need-loop-rest-init invariant-loop decreases-loop
 loop-holds c = omega arith
 
-add-count : tie.Need-overflow-add-count invariant-loop decreases-loop
+add-count : tie.Need-overflow_add-count invariant-loop decreases-loop
 add-count c = omega (arith, length_most c.before.before.args.n (omega arith))
 
-loop-less : tie.Need-loop-smaller invariant-loop decreases-loop
+loop-less : tie.Need-loop-rest-smaller invariant-loop decreases-loop
 loop-less c = omega arith
 
-loop-again : tie.Need-loop-preserved invariant-loop decreases-loop
-loop-again c = omega (arith, c.before.loop.invariant, length_two {n = c.before.loop.rest} (omega arith))
+loop-again : tie.Need-loop-rest-preserved invariant-loop decreases-loop
+loop-again c = omega (arith, c.before.loop-rest.invariant, length_two {n = c.before.loop-rest.rest} (omega arith))
 
 returns : tie.Need-returns invariant-loop decreases-loop
-returns c = omega (arith, c.before.loop.invariant, length-one {n = c.before.loop.rest} (omega arith))
+returns c = omega (arith, c.before.loop-rest.invariant, length-one {n = c.before.loop-rest.rest} (omega arith))
 
-pub characters-spec : {M : Type 1} → statement M
-characters-spec =
+pub characters_spec : {M : Type 1} → statement M
+characters_spec =
     tie.close (tie.spec invariant-loop decreases-loop loop-holds add-count loop-less loop-again returns)

@@ -9,10 +9,10 @@ use lib.Seq.{take-suc-set, take-length}
 use Rattle.text.proofs.joined.clear.Statement.{statement}
 use Rattle.text.proofs.joined.clear.Tie as tie
 
-abbrev invariant-loop : tie.invariant-loop
+abbrev invariant-loop : tie.invariant-loop-i
 invariant-loop numbers₀ count i₀ numbers i = (i ≤ count) × (length numbers ≡ length numbers₀) × (take i numbers ≡ replicate i 0)
 
-abbrev decreases-loop : tie.decreases-loop
+abbrev decreases-loop : tie.decreases-loop-i
 decreases-loop numbers₀ count i₀ numbers i = count - i
 
 -- one place more
@@ -22,46 +22,35 @@ more l i v h z e =
     ∙ take-suc-set l i v h
     ∙ rw (e, z) (replicate-append-replicate i 1 0)
 
-loop-holds : tie.Need-loop-init invariant-loop decreases-loop
+loop-holds : tie.Need-loop-i-init invariant-loop decreases-loop
 loop-holds c = (omega arith, refl, refl)
 
-mul-numbers : tie.Need-overflow-mul-numbers invariant-loop decreases-loop
-mul-numbers c = omega (arith, c.loop-test.true, c.before.before.well-formed)
+mul-numbers : tie.Need-offset_bounds-numbers-i invariant-loop decreases-loop
+mul-numbers c = omega (arith, c.loop-i-test.true, c.before.before.well_formed)
 
-slice-write-numbers : tie.Need-slice-write-numbers invariant-loop decreases-loop
-slice-write-numbers c = omega (arith, c.loop-test.true, c.before.loop.invariant.1)
+slice-write-numbers : tie.Need-bounds-numbers-i invariant-loop decreases-loop
+slice-write-numbers c = omega (arith, c.loop-i-test.true, c.before.loop-i.invariant.1)
 
-add-i : tie.Need-overflow-add-i invariant-loop decreases-loop
-add-i c = omega (arith, c.loop-test.true, c.before.before.well-formed)
+add-i : tie.Need-overflow_step-i invariant-loop decreases-loop
+add-i c = omega (arith, c.loop-i-test.true, c.before.before.well_formed)
 
-loop-less : tie.Need-loop-smaller invariant-loop decreases-loop
-loop-less c = omega (arith, c.loop-test.true)
+loop-less : tie.Need-loop-i-smaller invariant-loop decreases-loop
+loop-less c = omega (arith, c.loop-i-test.true)
 
-loop-again : tie.Need-loop-preserved invariant-loop decreases-loop
+loop-again : tie.Need-loop-i-preserved invariant-loop decreases-loop
 loop-again c =
-    let l = c.before.loop in
-    (omega (arith, c.loop-test.true), length-set l.numbers l.i _ ∙ l.invariant.1, more l.numbers l.i _ (omega (arith, c.loop-test.true, l.invariant.1)) refl l.invariant.2)
+    let l = c.before.loop-i in
+    (omega (arith, c.loop-i-test.true), length-set l.numbers l.i _ ∙ l.invariant.1, more l.numbers l.i _ (omega (arith, c.loop-i-test.true, l.invariant.1)) refl l.invariant.2)
 
-same_length : tie.Need-same-length invariant-loop decreases-loop
-same_length c = c.before.loop.invariant.1
+same_length : tie.Need-shape_of-numbers invariant-loop decreases-loop
+same_length c = c.before.loop-i.invariant.1
 
 returns : tie.Need-returns invariant-loop decreases-loop
 returns c =
-    let l = c.before.loop in
-    let all : l.i ≡ length c.before.before.args.numbers.now = omega (arith, l.invariant.0, c.loop-test.false) in
+    let l = c.before.loop-i in
+    let all : l.i ≡ length c.before.before.args.numbers.now = omega (arith, l.invariant.0, c.loop-i-test.false) in
     sym (ap (λ (k : ℕ). take k l.numbers) (all ∙ sym l.invariant.1) ∙ take-length l.numbers) ∙ l.invariant.2 ∙ ap (λ (k : ℕ). replicate k 0) all
 
 pub clear_spec : {M : Type 1} → statement M
 clear_spec =
-    tie.close
-    (tie.spec
-    invariant-loop
-    decreases-loop
-    loop-holds
-    mul-numbers
-    slice-write-numbers
-    add-i
-    loop-less
-    loop-again
-    same_length
-    returns)
+    tie.close (tie.spec invariant-loop decreases-loop loop-holds mul-numbers slice-write-numbers add-i loop-less loop-again same_length returns)

@@ -11,23 +11,24 @@ use Rattle.text.proofs.Joins.{joined_length}
 use Rattle.text.proofs.joined.joined_fits.Statement.{statement}
 use Rattle.text.proofs.joined.joined_fits.Tie as tie
 
-add-if1 : tie.Need-overflow-add-if1
+add-if1 : tie.Need-overflow_add-t-4
 add-if1 c = search rules
 
-div-if1 : tie.Need-nonzero-div-if1
+div-if1 : tie.Need-nonzero_div-room
 div-if1 c = search rules
 
-returns : tie.Need-returns
+returns : tie.Need-returns-then-numbers-room
 returns c =
     let a = c.before.before.args in
-    let most = joined_length characters_most a.numbers.now (λ i _. length_most (get_or a.numbers.now i 0) (omega (arith, c.before.shared-slice-known.given i))) in
-    sym (le-leb (length (joined a.numbers.now)) a.room (omega (arith, c.if1.true, most)))
+    let most = joined_length characters_most a.numbers.now (λ i _. length_most (get_or a.numbers.now i 0) (omega (arith, c.before.shared_slice_known-1.given i))) in
+    sym (le-leb (length (joined a.numbers.now)) a.room (omega (arith, c.if-numbers-room.true, most)))
 
-counted-fits-requires : tie.Need-counted-fits-requires
-counted-fits-requires c κs = omega (arith, c.if1.false)
+counted-fits-requires : tie.Need-counted_fits-requires
+counted-fits-requires c κs = omega (arith, c.if-numbers-room.false)
 
-returns-2 : tie.Need-returns-2
+returns-2 : tie.Need-returns
 returns-2 c = search rules
 
-pub joined-fits-spec : {M : Type 1} → statement M
-joined-fits-spec = tie.close (tie.spec add-if1 div-if1 returns counted-fits-requires returns-2)
+pub joined_fits_spec : {M : Type 1} → statement M
+joined_fits_spec =
+    tie.close (tie.spec add-if1 div-if1 returns counted-fits-requires returns-2)

@@ -23,65 +23,65 @@ last-put out place rest many fits =
     let end : from + length t ≡ place - 1 = omega (arith, length_two many) in
     rw (start, two many) (sym (sets-sets out from t (x ∷ [])) ∙ rw end (set-sets out from t (place - 1) x (λ i l e. omega arith)))
 
-abbrev invariant-loop : tie.invariant-loop
+abbrev invariant-loop : tie.invariant-loop-rest
 invariant-loop out₀ end n place₀ rest₀ out place rest =
     (length out ≡ length out₀) × (place ≤ end) × (length (decimal rest) ≤ place)
     × (sets out₀ (end - length (decimal n)) (decimal n) ≡ sets out (place - length (decimal rest)) (decimal rest))
 
-abbrev decreases-loop : tie.decreases-loop
+abbrev decreases-loop : tie.decreases-loop-rest
 decreases-loop out₀ end n place₀ rest₀ out place rest = rest
 
 -- the characters that are left before a turn
-longer : (l : tie.In-loop invariant-loop decreases-loop) → length (decimal l.before.loop.rest) ≡ length (decimal (l.before.loop.rest / 10)) + 1
-longer l = length_two {n = l.before.loop.rest} (omega arith)
+longer : (l : tie.In-loop-rest invariant-loop decreases-loop) → length (decimal l.before.loop-rest.rest) ≡ length (decimal (l.before.loop-rest.rest / 10)) + 1
+longer l = length_two {n = l.before.loop-rest.rest} (omega arith)
 
-loop-holds : tie.Need-loop-init invariant-loop decreases-loop
+loop-holds : tie.Need-loop-rest-init invariant-loop decreases-loop
 loop-holds c = (refl, omega arith, c.requires.0, refl)
 
-sub-place : tie.Need-overflow-sub-place invariant-loop decreases-loop
-sub-place c = omega (arith, longer c, c.before.loop.invariant.2)
+sub-place : tie.Need-overflow_sub-place invariant-loop decreases-loop
+sub-place c = omega (arith, longer c, c.before.loop-rest.invariant.2)
 
-cast-out : tie.Need-overflow-cast-out invariant-loop decreases-loop
+cast-out : tie.Need-overflow_cast-out invariant-loop decreases-loop
 cast-out c = omega arith
 
-add-out : tie.Need-overflow-add-out invariant-loop decreases-loop
+add-out : tie.Need-overflow_add-out invariant-loop decreases-loop
 add-out c = omega arith
 
-slice-write-out : tie.Need-slice-write-out invariant-loop decreases-loop
+slice-write-out : tie.Need-bounds-out-place invariant-loop decreases-loop
 slice-write-out c = omega (arith, sub-place c)
 
-loop-less : tie.Need-loop-smaller invariant-loop decreases-loop
+loop-less : tie.Need-loop-rest-smaller invariant-loop decreases-loop
 loop-less c = omega arith
 
-loop-again : tie.Need-loop-preserved invariant-loop decreases-loop
+loop-again : tie.Need-loop-rest-preserved invariant-loop decreases-loop
 loop-again c =
-    let h = c.before.loop in
+    let h = c.before.loop-rest in
     let v = h.invariant in
     (length-set h.out (h.place - 1) (zero_character + h.rest % 10) ∙ v.0, omega arith, omega (arith, longer c, v.2), v.3 ∙ last-put h.out h.place h.rest (omega arith) v.2)
 
-cast-out-2 : tie.Need-overflow-cast-out-2 invariant-loop decreases-loop
+cast-out-2 : tie.Need-overflow_cast-out-2 invariant-loop decreases-loop
 cast-out-2 c = omega arith
 
-add-out-2 : tie.Need-overflow-add-out-2 invariant-loop decreases-loop
+add-out-2 : tie.Need-overflow_add-out-2 invariant-loop decreases-loop
 add-out-2 c = omega arith
 
-sub_out : tie.Need-overflow-sub-out invariant-loop decreases-loop
-sub_out c = let h = c.before.loop in omega (arith, length-one {n = h.rest} (omega arith), h.invariant.2)
+sub_out : tie.Need-overflow_sub-out invariant-loop decreases-loop
+sub_out c = let h = c.before.loop-rest in omega (arith, length-one {n = h.rest} (omega arith), h.invariant.2)
 
-slice-write-out-2 : tie.Need-slice-write-out-2 invariant-loop decreases-loop
+slice-write-out-2 : tie.Need-bounds-out-place-2 invariant-loop decreases-loop
 slice-write-out-2 c = omega (arith, sub_out c)
 
-same_length : tie.Need-same-length invariant-loop decreases-loop
-same_length c = let h = c.before.loop in length-set h.out (h.place - 1) (zero_character + h.rest) ∙ h.invariant.0
+same_length : tie.Need-shape_of-out invariant-loop decreases-loop
+same_length c = let h = c.before.loop-rest in length-set h.out (h.place - 1) (zero_character + h.rest) ∙ h.invariant.0
 
 returns : tie.Need-returns invariant-loop decreases-loop
 returns c =
-    let h = c.before.loop in
+    let h = c.before.loop-rest in
     let few = one {n = h.rest} (omega arith) in
     sym (h.invariant.3 ∙ ap (λ (t : List ℕ). sets h.out (h.place - length t) t) few)
 
-pub put-before-spec : {M : Type 1} → statement M
-put-before-spec =
+pub put_before_spec : {M : Type 1} → statement M
+put_before_spec =
     tie.close
     (tie.spec
     invariant-loop

@@ -4,69 +4,61 @@ use mathlib.Core.Path.{sym, ◌∙◌}
 use Prim.Native.Nat.{ℕ, ◌+◌, ◌-◌, ◌≤◌}
 use native.Mathlib.Omega.{arith}
 use borrow.Author.Rules.{rules}
-use borrow.Author.Tests.{leb-true, leb-false, not-true, not-false}
+use borrow.Author.Tests.{leb-true, leb-false}
 use lib.ListN.{length}
 use Rattle.text.specs.Joined.{joined}
 use Rattle.text.proofs.Fitting.{put-fits, put-over}
 use Rattle.text.proofs.joined.put_joined.Statement.{statement}
 use Rattle.text.proofs.joined.put_joined.Tie as tie
 
-abbrev A : tie.After-joined-fits → tie.Else1
+abbrev A : tie.After-joined_fits → tie.Else-out-at
 A k = k.before
 
-abbrev S : tie.Else1 → tie.Start
+abbrev S : tie.Else-out-at → tie.Start
 S e = e.before.before.before
 
-abbrev text : tie.Else1 → List ℕ
+abbrev text : tie.Else-out-at → List ℕ
 text e = joined (S e).args.numbers.now
 
-room : (e : tie.Else2) → (let a = A e.before in (S a).args.at + length (text a) ≤ length (S a).args.out.now)
+room : (e : tie.Else-not-joined_fits) → (let a = A e.before in (S a).args.at + length (text a) ≤ length (S a).args.out.now)
 room e =
     let a = A e.before in
-    omega (arith, a.if1.left, leb-true (length (text a)) (length (S a).args.out.now - (S a).args.at) (sym e.before.joined-fits.ensures ∙ not-false _ e.if2.false))
+    omega (arith, a.if-out-at.false, leb-true (length (text a)) (length (S a).args.out.now - (S a).args.at) (sym e.before.joined_fits.ensures ∙ e.if-not-joined_fits.false))
 
-returns : tie.Need-returns
+returns : tie.Need-returns-then-out-at
 returns c =
     let s = c.before.before.before in
-    let o = put-over s.args.out.now s.args.at (joined s.args.numbers.now) (omega (arith, c.if1.true)) in
+    let o = put-over s.args.out.now s.args.at (joined s.args.numbers.now) (omega (arith, c.if-out-at.true)) in
     (sym o.0, sym o.1)
 
-sub-joined-fits : tie.Need-overflow-sub-joined-fits
+sub-joined-fits : tie.Need-overflow_sub-out
 sub-joined-fits c = search rules
 
-joined-fits-requires : tie.Need-joined-fits-requires
+joined-fits-requires : tie.Need-joined_fits-requires
 joined-fits-requires c κs = search rules
 
-returns-2 : tie.Need-returns-2
+returns-2 : tie.Need-returns-then-not-joined_fits
 returns-2 c =
     let a = A c.before in
     let s = S a in
-    let long = leb-false (length (text a)) (length s.args.out.now - s.args.at) (sym c.before.joined-fits.ensures ∙ not-true _ c.if2.true) in
+    let long = leb-false (length (text a)) (length s.args.out.now - s.args.at) (sym c.before.joined_fits.ensures ∙ c.if-not-joined_fits.true) in
     let o = put-over s.args.out.now s.args.at (text a) (omega (arith, long)) in
     (sym o.0, sym o.1)
 
-put-list-requires : tie.Need-put-list-requires
+put-list-requires : tie.Need-put_list-requires
 put-list-requires c κs = room c.before
 
-same_length : tie.Need-same-length
+same_length : tie.Need-shape_of-out
 same_length c = search rules
 
-returns-3 : tie.Need-returns-3
+returns-3 : tie.Need-returns
 returns-3 c =
     let k = c.before.before in
     let e = k.before.before in
     let a = A e.before in
     let fits = put-fits (S a).args.out.now (S a).args.at (text a) (room e) in
-    (k.put-list.ensures.0 ∙ sym fits.0, k.put-list.ensures.1 ∙ sym fits.1)
+    (k.put_list.ensures.0 ∙ sym fits.0, k.put_list.ensures.1 ∙ sym fits.1)
 
-pub put-joined-spec : {M : Type 1} → statement M
-put-joined-spec =
-    tie.close
-    (tie.spec
-    returns
-    sub-joined-fits
-    joined-fits-requires
-    returns-2
-    put-list-requires
-    same_length
-    returns-3)
+pub put_joined_spec : {M : Type 1} → statement M
+put_joined_spec =
+    tie.close (tie.spec returns sub-joined-fits joined-fits-requires returns-2 put-list-requires same_length returns-3)

@@ -18,32 +18,31 @@ wrong : (n : ℕ) (r : Bool) (ns : List ℕ) (o : Option (List ℕ)) → r ≡ f
 wrong n true ns o t e = absurd (true≢false t)
 wrong n false ns o t e = rw (← e) (refl, refl)
 
-read-each-requires : tie.Need-read-each-requires
+read-each-requires : tie.Need-read_each-requires
 read-each-requires c κs = search rules
 
-same_length : tie.Need-same-length
+same_length : tie.Need-shape_of-numbers-then-read_each
 same_length c = search rules
 
-returns : tie.Need-returns
+returns : tie.Need-returns-then-read_each
 returns c =
     let k = c.before.before.before in
-    right _ k.read-each.result k.read-each.new.1.0 _ c.if1.true k.read-each.ensures
+    right _ k.read_each.result k.read_each.new.numbers _ c.if-read_each.true k.read_each.ensures
 
 clear-requires : tie.Need-clear-requires
 clear-requires c κs = search rules
 
-same-length-2 : tie.Need-same-length-2
+same-length-2 : tie.Need-shape_of-numbers
 same-length-2 c = search rules
 
-returns-2 : tie.Need-returns-2
+returns-2 : tie.Need-returns
 returns-2 c =
     let clear = c.before.before in
     let e = clear.before.before in
     let k = e.before.before.before in
-    let w = wrong _ k.read-each.result k.read-each.new.1.0 _ e.if1.false k.read-each.ensures in
-    (w.0, clear.clear.ensures ∙ ap (λ (n : ℕ). replicate n 0) k.read-each.auto.1.0 ∙ w.1)
+    let w = wrong _ k.read_each.result k.read_each.new.numbers _ e.if-read_each.false k.read_each.ensures in
+    (w.0, clear.clear.ensures ∙ ap (λ (n : ℕ). replicate n 0) k.read_each.auto.numbers ∙ w.1)
 
-pub read-joined-spec : {M : Type 1} → statement M
-read-joined-spec =
-    tie.close
-    (tie.spec read-each-requires same_length returns clear-requires same-length-2 returns-2)
+pub read_joined_spec : {M : Type 1} → statement M
+read_joined_spec =
+    tie.close (tie.spec read-each-requires same_length returns clear-requires same-length-2 returns-2)
