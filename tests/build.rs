@@ -1,4 +1,4 @@
-//! Links the proved calls: `rt staticlib trace_card` writes the library, and `.ci/run` does so before these tests.
+//! Links the proved calls: `programs/build` writes the library, and `.ci/run` runs it before these tests.
 
 use std::path::Path;
 
@@ -8,7 +8,7 @@ fn main() {
     println!("cargo:rerun-if-changed={}", library.display());
     assert!(
         library.exists(),
-        "{} is not there: run `rt staticlib trace_card` first",
+        "{} is not there: run `programs/build` first",
         library.display()
     );
     println!("cargo:rustc-link-search=native={}", folder.display());

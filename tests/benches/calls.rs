@@ -2,7 +2,7 @@
 //! of many, in microseconds, and the ratio. It stops where the two give different results. The roll stands beside Rust's own
 //! formatting too.
 //!
-//! `cargo bench --offline`, after `rt staticlib trace_card`.
+//! `cargo bench --offline`, after `programs/build`.
 
 use std::io::Write;
 use std::time::Instant;

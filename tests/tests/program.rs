@@ -1,4 +1,4 @@
-//! The programs `show`, as `rt check` builds it, and `trace`, as `programs/build` does, against the model: what they print of
+//! The programs `show` and `trace`, as `programs/build` builds them, against the model: what they print of
 //! any input, `show` of files by name, and `trace compare` of two files. Then the kept run of `show`, and the examples,
 //! against the model.
 
@@ -34,7 +34,7 @@ fn run_program(
         .spawn()
         .unwrap_or_else(|error| {
             panic!(
-                "{}: {error}; run `rt check show` and `programs/build` first",
+                "{}: {error}; run `programs/build` first",
                 program.display()
             )
         });
