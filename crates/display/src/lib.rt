@@ -1,5 +1,7 @@
 // What the programs print of a card, and of two: reading it from a file, what is to be shown of its bytes, the pieces of text, and the printing, which only
 // loops and writes them.
+#![tactic(auto)]
+
 mod answers;
 mod comparing;
 mod pieces;

@@ -11,15 +11,17 @@ use crate::answers::{number_of, rolled_of, shown_of};
 use crate::comparing::compared_of;
 use crate::pieces::{first_line, line, piece_at, pieces, refused_line};
 use crate::{BUFFER, MOST_MARKS, MOST_PAGE, Piece, Shown};
-use libc::STDOUT_FILENO;
 use sheet::MOST_POINTS;
+
+// The descriptor of standard output.
+const STDOUT: i32 = 1;
 
 fn write(piece: Piece)
     requires { piece.length ≤ W.piece_most }
 {
     let bytes = piece.bytes;
     let length = piece.length;
-    io::write_all(STDOUT_FILENO, &bytes[..length]);
+    io::write_all(STDOUT, &bytes[..length]);
 }
 
 // All pieces, in order.
@@ -74,7 +76,7 @@ fn roll_in(bytes: &[u8], coefficients: &mut [i32], values: &mut [i64], page: &mu
     if rolled.number != 0 {
         return refuse(rolled.number);
     }
-    io::write_all(STDOUT_FILENO, &page[..length]);
+    io::write_all(STDOUT, &page[..length]);
     rolled.number
 }
 
@@ -121,7 +123,7 @@ fn compare_in(
     }
     write(line(b"apart=", compared.apart));
     write(first_line(compared.row, compared.column));
-    io::write_all(STDOUT_FILENO, &page[..length]);
+    io::write_all(STDOUT, &page[..length]);
     compared.number
 }
 

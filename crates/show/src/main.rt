@@ -1,6 +1,25 @@
 // The program show: prints what a card on standard input shows, or each card that an argument names, with its name before it.
+#![tactic(auto)]
+
+ghost use Rattle.std.specs.Prelude.{IfSome};
+ghost use Rattle.io.specs.Counts.{IsPrefixLen};
+
 use display::BUFFER;
-use libc::{STDERR_FILENO, STDIN_FILENO, STDOUT_FILENO};
+use std::env::{Env, FillError};
+use std::fs::File;
+use std::os::fd::AsRawFd;
+use std::rt::Files;
+use std::{fs, str};
+
+// The descriptors that a program starts with.
+const STDIN: i32 = 0;
+
+const STDOUT: i32 = 1;
+
+const STDERR: i32 = 2;
+
+// Which argument is the first name; before it stands the program's own.
+const FIRST_NAME: usize = 1;
 
 // Shows what a file holds, of any length.
 fn show(file: i32) {
@@ -10,29 +29,45 @@ fn show(file: i32) {
     display::show(&buffer[..n], input.ends);
 }
 
-// Shows the card that argument i names, or says that there is none.
-fn show_named(i: usize) {
-    let mut name = io::buffer();
-    let length = os::arg(i, &mut name);
-    let file = os::open_read(&name[..length]);
-    if file < 0 {
-        io::write_all(STDERR_FILENO, &name[..length]);
-        io::write_all(STDERR_FILENO, b": cannot be opened\n");
-        return;
+// How many bytes argument i has, which then stand at the front of `name`; none where there is no such argument. One that is too long counts as empty.
+fn argument(rt: &impl Env, i: usize, name: &mut [u8]) -> Option<usize>
+    ensures { IfSome result (λ n. IsPrefixLen n name.new) }
+{
+    match rt.arg(i, name) {
+        Ok(length) => Some(length),
+        Err(FillError::TooLong) => Some(0),
+        Err(FillError::NotPresent) => None,
     }
-    io::write_all(STDOUT_FILENO, &name[..length]);
-    io::write_all(STDOUT_FILENO, b":\n");
-    show(file);
-    libc::close(file);
 }
 
-fn main() {
-    let count = os::arg_count();
-    if count <= 1 {
-        show(STDIN_FILENO);
+// Opens the file of that name for reading; none where it cannot be opened. A name that is not UTF-8 is no path.
+fn open<R: Files>(rt: &R, name: &[u8]) -> Option<R::File> {
+    let path = str::from_utf8(name).ok()?;
+    fs::open(rt, path).ok()
+}
+
+// Shows the card that is named, or says that there is none.
+fn show_named(rt: &impl Files<File = File>, name: &[u8]) {
+    let Some(file) = open(rt, name) else {
+        io::write_all(STDERR, name);
+        io::write_all(STDERR, b": cannot be opened\n");
+        return;
+    };
+    io::write_all(STDOUT, name);
+    io::write_all(STDOUT, b":\n");
+    show(file.as_raw_fd());
+}
+
+fn main(rt: HostRuntime) {
+    let mut name = io::buffer();
+    if argument(&rt, FIRST_NAME, &mut name).is_none() {
+        show(STDIN);
         return;
     }
-    for i in 1..count {
-        show_named(i);
+    for i in FIRST_NAME..usize::MAX {
+        let Some(length) = argument(&rt, i, &mut name) else {
+            break;
+        };
+        show_named(&rt, &name[..length]);
     }
 }

@@ -6,25 +6,26 @@ use Rattle.trace.specs.Words.{names_of}
 use Rattle.trace.proofs.asked.Statement.{statement}
 use Rattle.trace.proofs.asked.Tie as tie
 
-word-of-requires : tie.Need-word-of-requires
+word-of-requires : tie.Need-word_of-word-requires
 word-of-requires c κs = search rules
 
-names-of-requires : tie.Need-names-of-requires
+names-of-requires : tie.Need-names_of-requires
 names-of-requires c κs = search rules
 
-returns : tie.Need-returns
+returns : tie.Need-returns-then-names-names_of
 returns c =
     let n = c.before in
     let w = n.before in
     let names = w.before.before.args.names in
-    rw (← w.word_of.ensures, eq-eqb names (names_of w.word_of.result) (c.if1.true ∙ n.names_of.ensures))
+    rw (← w.word_of-word.ensures, eq-eqb names (names_of w.word_of-word.result) (c.if-names-names_of.true ∙ n.names_of.ensures))
 
-returns-2 : tie.Need-returns-2
+returns-2 : tie.Need-returns-else-names-names_of
 returns-2 c =
     let n = c.before in
     let w = n.before in
     let names = w.before.before.args.names in
-    rw (← w.word_of.ensures, ne_eqb names (names_of w.word_of.result) (λ e. c.if1.false (e ∙ sym n.names_of.ensures)))
+    rw (← w.word_of-word.ensures, ne_eqb names (names_of w.word_of-word.result) (λ e. c.if-names-names_of.false (e ∙ sym n.names_of.ensures)))
 
-pub asked-spec : {M : Type 1} → statement M
-asked-spec = tie.close (tie.spec word-of-requires names-of-requires returns returns-2)
+pub asked_spec : {M : Type 1} → statement M
+asked_spec =
+    tie.close (tie.spec word-of-requires names-of-requires returns returns-2)

@@ -16,5 +16,6 @@ returns c =
     let at : c.find.result ≡ index_of newline bs = omega (arith, c.find.ensures) in
     rw at
 
-pub has-end-spec : {M : Type 1} → statement M
-has-end-spec = tie.close (tie.spec find-requires returns)
+pub has_end_spec : {M : Type 1} → statement M
+has_end_spec =
+    tie.close (tie.spec find-requires returns)

@@ -3,14 +3,15 @@ use borrow.Author.Tests.{eq-eqb, ne_eqb}
 use Rattle.display.proofs.answers.long_number.Statement.{statement}
 use Rattle.display.proofs.answers.long_number.Tie as tie
 
-returns : tie.Need-returns
-returns c = simp (eq-eqb _ _ c.before.if1.true, c.if2.true)
+returns : tie.Need-returns-then-ends
+returns c = simp (eq-eqb _ _ c.before.if-number-eq5.true, c.if-ends.true)
 
-returns-2 : tie.Need-returns-2
-returns-2 c = simp (eq-eqb _ _ c.before.if1.true, c.if2.false)
+returns-2 : tie.Need-returns-else-ends
+returns-2 c = simp (eq-eqb _ _ c.before.if-number-eq5.true, c.if-ends.false)
 
-returns-3 : tie.Need-returns-3
-returns-3 c = simp (ne_eqb _ _ c.if1.false)
+returns-3 : tie.Need-returns-else-number-eq5
+returns-3 c = simp (ne_eqb _ _ c.if-number-eq5.false)
 
-pub long-number-spec : {M : Type 1} → statement M
-long-number-spec = tie.close (tie.spec returns returns-2 returns-3)
+pub long_number_spec : {M : Type 1} → statement M
+long_number_spec =
+    tie.close (tie.spec returns returns-2 returns-3)

@@ -6,14 +6,15 @@ use Rattle.header.specs.Opening.{Opening}
 use Rattle.display.proofs.answers.opening_number.Statement.{statement}
 use Rattle.display.proofs.answers.opening_number.Tie as tie
 
-open-requires : tie.Need-open-requires
+open-requires : tie.Need-open-opened-requires
 open-requires c κs = search rules
 
-details-of-requires : tie.Need-details-of-requires
+details-of-requires : tie.Need-details_of-details-requires
 details-of-requires c κs = search rules
 
 returns : tie.Need-returns
-returns c = ap (λ (d : Details). d.number) c.details-of.ensures ∙ ap (λ (o : Opening). o.refused.number) c.before.«open».ensures.0
+returns c = ap (λ (d : Details). d.number) c.details_of-details.ensures ∙ ap (λ (o : Opening). o.refused.number) c.before.open-opened.ensures.0
 
-pub opening-number-spec : {M : Type 1} → statement M
-opening-number-spec = tie.close (tie.spec open-requires details-of-requires returns)
+pub opening_number_spec : {M : Type 1} → statement M
+opening_number_spec =
+    tie.close (tie.spec open-requires details-of-requires returns)

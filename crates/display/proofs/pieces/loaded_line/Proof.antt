@@ -37,66 +37,51 @@ list-most s n h =
       joined_length characters_most (take n counts) (λ i l. rw (get_or-take n counts i 0 (omega (arith, length-take n counts))) (length_most (get_or counts i 0) (number s i))),
     )
 
+-- where the line began, from where its key stands
+abbrev start : tie.After-with_text-key → tie.Start
+start t = t.before.before.before.before.before
+
 nothing-requires : tie.Need-nothing-requires
 nothing-requires c κs = search rules
 
-slice-aggregate-with-text : tie.Need-slice-aggregate-with-text
-slice-aggregate-with-text c = search rules
+with-text-requires : tie.Need-with_text-key-requires
+with-text-requires c κs = omega (arith, long c.nothing.ensures)
 
-with-text-requires : tie.Need-with-text-requires
-with-text-requires c κs = omega (arith, long c.before.nothing.ensures)
-
-layer-count-requires : tie.Need-layer-count-requires
+layer-count-requires : tie.Need-layer_count-requires
 layer-count-requires c κs = search rules
 
-with-list-requires : tie.Need-with-list-requires
+with-list-requires : tie.Need-with_list-requires
 with-list-requires c κs =
-    let t = c.before in
-    let n = t.before.before in
-    let s = n.before.before in
-    let few : c.layer-count.result ≤ layers_most = omega (arith, c.layer-count.ensures, count-few s.args.shape) in
-    (few, omega (arith, long t.with-text.ensures, long n.nothing.ensures, list-most s c.layer-count.result few))
+    let few : c.layer_count.result ≤ layers_most = omega (arith, c.layer_count.ensures, count-few c.args.shape) in
+    (few, omega (arith, long c.with_text-key.ensures, long c.nothing.ensures, list-most (start c.before) c.layer_count.result few))
 
 -- the end is within the piece
-ends : (c : tie.After-with-list) → c.with-list.result.length + 1 ≤ piece_most
+ends : (c : tie.After-with_list) → c.with_list.result.length + 1 ≤ piece_most
 ends c =
-    let k = c.before in
-    let t = k.before in
-    let n = t.before.before in
-    let s = n.before.before in
-    omega (arith, long c.with-list.ensures, long t.with-text.ensures, long n.nothing.ensures, list-most s k.layer-count.result (omega (arith, k.layer-count.ensures, count-few s.args.shape)))
+    omega (
+      arith,
+      long c.with_list.ensures,
+      long c.with_text-key.ensures,
+      long c.nothing.ensures,
+      list-most (start c.before.before) c.layer_count.result (omega (arith, c.layer_count.ensures, count-few c.args.shape)),
+    )
 
-slice-aggregate-with-text-2 : tie.Need-slice-aggregate-with-text-2
-slice-aggregate-with-text-2 c = search rules
-
-with-text-requires-2 : tie.Need-with-text-requires-2
-with-text-requires-2 c κs = ends c.before
+with-text-requires-2 : tie.Need-with_text-requires
+with-text-requires-2 c κs = ends c.before.before
 
 returns : tie.Need-returns
 unfolding loaded_text ascii_from
 returns c =
-    let l = c.before.before in
-    let k = l.before in
-    let t = k.before in
-    let n = t.before.before in
-    let s = n.before.before in
+    let l = c.before.before.before in
+    let planes = c.args.plan.planes in
     let key = ascii "loaded=" in
-    let counts = joined (take k.layer-count.result s.args.plan.planes) in
-    let start = n.nothing.result in
-    rw (← count-take s.args.shape s.args.plan.planes (full s), ← k.layer-count.ensures)
-    (holds (key ++ counts ++ newline ∷ []) n.nothing.ensures
-    (extended-more start (key ++ counts) (newline ∷ []) (extended-more start key counts t.with-text.ensures l.with-list.ensures) c.with-text2.ensures)
-    (omega (arith, long c.with-text2.ensures, ends l)))
+    let counts = joined (take c.layer_count.result planes) in
+    let empty = c.nothing.result in
+    rw (← count-take c.args.shape planes (full (start l.before.before)), ← c.layer_count.ensures)
+    (holds (key ++ counts ++ newline ∷ []) c.nothing.ensures
+    (extended-more empty (key ++ counts) (newline ∷ []) (extended-more empty key counts c.with_text-key.ensures c.with_list.ensures) c.with_text.ensures)
+    (omega (arith, long c.with_text.ensures, ends l)))
 
-pub loaded-line-spec : {M : Type 1} → statement M
-loaded-line-spec =
-    tie.close
-    (tie.spec
-    nothing-requires
-    slice-aggregate-with-text
-    with-text-requires
-    layer-count-requires
-    with-list-requires
-    slice-aggregate-with-text-2
-    with-text-requires-2
-    returns)
+pub loaded_line_spec : {M : Type 1} → statement M
+loaded_line_spec =
+    tie.close (tie.spec nothing-requires with-text-requires layer-count-requires with-list-requires with-text-requires-2 returns)

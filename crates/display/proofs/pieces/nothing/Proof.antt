@@ -16,5 +16,6 @@ none z n e f = rw (e, f) (ap (λ (l : List ℕ). piece l 0) (padded-none piece_m
 returns : tie.Need-returns
 returns c = none _ _ (omega arith) (omega arith)
 
-pub nothing-spec : {M : Type 1} → statement M
-nothing-spec = tie.close (tie.spec returns)
+pub nothing_spec : {M : Type 1} → statement M
+nothing_spec =
+    tie.close (tie.spec returns)

@@ -6,43 +6,36 @@ use Rattle.display.specs.Workings.{sheet_lines, piece_at}
 use Rattle.display.proofs.pieces.piece_at.Statement.{statement}
 use Rattle.display.proofs.pieces.piece_at.Tie as tie
 
-refused-line-requires : tie.Need-refused-line-requires
+refused-line-requires : tie.Need-refused_line-requires
 refused-line-requires c κs = search rules
 
-returns : tie.Need-returns
+returns : tie.Need-returns-then-shown-ne0
 unfolding piece_at
 returns c =
     let t = c.before in
     let s = t.before.before.before in
-    rw (ne_eqb s.args.shown.number 0 t.if1.true) c.refused-line.ensures
+    rw (ne_eqb s.args.shown.number 0 t.if-shown-ne0.true) c.refused_line.ensures
 
-value-piece-requires : tie.Need-value-piece-requires
+value-piece-requires : tie.Need-value_piece-requires
 value-piece-requires c κs = search rules
 
-returns-2 : tie.Need-returns-2
+returns-2 : tie.Need-returns-then-i-ge-SHEET_LINES
 unfolding piece_at
 returns-2 c =
     let t = c.before in
     let s = t.before.before.before.before in
-    rw (eq-eqb s.args.shown.number 0 t.before.if1.false, le-ltb s.args.i sheet_lines (omega arith)) c.value-piece.ensures
+    rw (eq-eqb s.args.shown.number 0 t.before.if-shown-ne0.false, le-ltb s.args.i sheet_lines (omega arith)) c.value_piece.ensures
 
-sheet-line-requires : tie.Need-sheet-line-requires
+sheet-line-requires : tie.Need-sheet_line-requires
 sheet-line-requires c κs = search rules
 
-returns-3 : tie.Need-returns-3
+returns-3 : tie.Need-returns
 unfolding piece_at
 returns-3 c =
     let t = c.before in
     let s = t.before.before.before.before in
-    rw (eq-eqb s.args.shown.number 0 t.before.if1.false, lt-ltb s.args.i sheet_lines (omega arith)) c.sheet-line.ensures
+    rw (eq-eqb s.args.shown.number 0 t.before.if-shown-ne0.false, lt-ltb s.args.i sheet_lines (omega arith)) c.sheet_line.ensures
 
-pub piece-at-spec : {M : Type 1} → statement M
-piece-at-spec =
-    tie.close
-    (tie.spec
-    refused-line-requires
-    returns
-    value-piece-requires
-    returns-2
-    sheet-line-requires
-    returns-3)
+pub piece_at_spec : {M : Type 1} → statement M
+piece_at_spec =
+    tie.close (tie.spec refused-line-requires returns value-piece-requires returns-2 sheet-line-requires returns-3)

@@ -10,29 +10,19 @@ use Rattle.display.proofs.pieces.row_start.Tie as tie
 nothing-requires : tie.Need-nothing-requires
 nothing-requires c κs = search rules
 
-slice-aggregate-with-text : tie.Need-slice-aggregate-with-text
-slice-aggregate-with-text c = search rules
-
-with-text-requires : tie.Need-with-text-requires
+with-text-requires : tie.Need-with_text-requires
 with-text-requires c κs = omega (arith, long c.before.nothing.ensures)
 
-nothing-requires-2 : tie.Need-nothing-requires-2
+nothing-requires-2 : tie.Need-nothing-requires-else-column-eq0
 nothing-requires-2 c κs = search rules
 
-returns : tie.Need-returns
+returns : tie.Need-returns-then-column-eq0
 unfolding ascii_from
-returns c = rw (eq-eqb _ _ c.before.before.before.if1.true) (holds (ascii "row=") c.before.before.nothing.ensures c.with-text.ensures (omega (arith, long c.with-text.ensures, long c.before.before.nothing.ensures)))
+returns c = rw (eq-eqb _ _ c.before.before.before.if-column-eq0.true) (holds (ascii "row=") c.before.before.nothing.ensures c.with_text.ensures (omega (arith, long c.with_text.ensures, long c.before.before.nothing.ensures)))
 
-returns-2 : tie.Need-returns-2
-returns-2 c = rw (ne_eqb _ _ c.before.if1.false) c.nothing2.ensures
+returns-2 : tie.Need-returns-else-column-eq0
+returns-2 c = rw (ne_eqb _ _ c.before.if-column-eq0.false) c.nothing-else-column-eq0.ensures
 
-pub row-start-spec : {M : Type 1} → statement M
-row-start-spec =
-    tie.close
-    (tie.spec
-    nothing-requires
-    slice-aggregate-with-text
-    with-text-requires
-    nothing-requires-2
-    returns
-    returns-2)
+pub row_start_spec : {M : Type 1} → statement M
+row_start_spec =
+    tie.close (tie.spec nothing-requires with-text-requires nothing-requires-2 returns returns-2)

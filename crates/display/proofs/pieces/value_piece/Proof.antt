@@ -23,32 +23,32 @@ use Rattle.display.proofs.pieces.value_piece.Tie as tie
 nothing-requires : tie.Need-nothing-requires
 nothing-requires c κs = search rules
 
-returns : tie.Need-returns
+returns : tie.Need-returns-then-values-i
 unfolding value_piece
 returns c =
     let s = c.before.before in
-    rw (le-ltb s.args.i (length s.args.values.now) c.before.if1.true) c.nothing.ensures
+    rw (le-ltb s.args.i (length s.args.values.now) c.before.if-values-i.true) c.nothing.ensures
 
-nothing-requires-2 : tie.Need-nothing-requires-2
+nothing-requires-2 : tie.Need-nothing-requires-then-cols-eq0
 nothing-requires-2 c κs = search rules
 
-returns-2 : tie.Need-returns-2
+returns-2 : tie.Need-returns-then-cols-eq0
 unfolding value_piece
 returns-2 c =
     let t = c.before in
     let s = t.before.before in
-    rw (lt-ltb s.args.i (length s.args.values.now) t.before.if1.false, eq-eqb s.args.cols 0 t.if2.true) c.nothing2.ensures
+    rw (lt-ltb s.args.i (length s.args.values.now) t.before.if-values-i.false, eq-eqb s.args.cols 0 t.if-cols-eq0.true) c.nothing-then-cols-eq0.ensures
 
-rem-column : tie.Need-nonzero-rem-column
+rem-column : tie.Need-nonzero_rem-column
 rem-column c = search rules
 
-row-start-requires : tie.Need-row-start-requires
+row-start-requires : tie.Need-row_start-requires
 row-start-requires c κs = search rules
 
-mul-with-value : tie.Need-overflow-mul-with-value
+mul-with-value : tie.Need-offset_bounds-values-i
 mul-with-value c = search rules
 
-shared-slice-copy-out-with-value : tie.Need-shared-slice-copy-out-with-value
+shared-slice-copy-out-with-value : tie.Need-bounds-values-i
 shared-slice-copy-out-with-value c = search rules
 
 start-short : (column : ℕ) → length (row_start column) ≤ 4
@@ -59,36 +59,36 @@ end-one : (last : Bool) → length (row_end last) ≡ 1
 end-one true = refl
 end-one false = refl
 
-with-value-requires : tie.Need-with-value-requires
+with-value-requires : tie.Need-with_value-piece-requires
 with-value-requires c κs =
     let r = c.before in
     let s = r.before.before.before in
-    omega (arith, long r.row-start.ensures, start-short (s.args.i % s.args.cols))
+    omega (arith, long r.row_start.ensures, start-short (s.args.i % s.args.cols))
 
 -- the value as it is read
-abbrev value : tie.After-with-value → ℤ
+abbrev value : tie.After-with_value-piece → ℤ
 value c = get_or c.before.before.before.before.before.args.values.now c.before.before.before.before.before.args.i (pos 0)
 
-put : (c : tie.After-with-value) → c.with_value.result ≡ extended c.before.before.row-start.result (signed (value c))
-put c = rw (to_z-of_z (record { sfits = c.before.with-value-arg.given })) at c.with_value.ensures
+put : (c : tie.After-with_value-piece) → c.with_value-piece.result ≡ extended c.before.before.row_start.result (signed (value c))
+put c = rw (to_z-of_z (record { sfits = c.before.with_value-arg-1.given })) at c.with_value-piece.ensures
 
 -- the byte behind it is within the piece
-ends : (c : tie.After-with-value) → c.with_value.result.length + 1 ≤ piece_most
+ends : (c : tie.After-with_value-piece) → c.with_value-piece.result.length + 1 ≤ piece_most
 ends c =
     let r = c.before.before in
     let s = r.before.before.before in
-    omega (arith, long r.row-start.ensures, start-short (s.args.i % s.args.cols), long (put c), signed-most (value c) c.before.with-value-arg.given)
+    omega (arith, long r.row_start.ensures, start-short (s.args.i % s.args.cols), long (put c), signed-most (value c) c.before.with_value-arg-1.given)
 
-add-with-end : tie.Need-overflow-add-with-end
+add-with-end : tie.Need-overflow_add-column
 add-with-end c =
     let e = c.before.before.before in
     let s = e.before.before in
-    omega (arith, mod-lt s.args.i {m = s.args.cols} (omega (arith, e.if2.false)))
+    omega (arith, mod-lt s.args.i {m = s.args.cols} (omega (arith, e.if-cols-eq0.false)))
 
-with-end-requires : tie.Need-with-end-requires
+with-end-requires : tie.Need-with_end-requires
 with-end-requires c κs = ends c
 
-returns-3 : tie.Need-returns-3
+returns-3 : tie.Need-returns
 unfolding value_piece
 returns-3 c =
     let v = c.before in
@@ -97,11 +97,11 @@ returns-3 c =
     let s = e.before.before in
     let start = row_start (s.args.i % s.args.cols) in
     let last = eqb (s.args.i % s.args.cols + 1) s.args.cols in
-    rw (lt-ltb s.args.i (length s.args.values.now) e.before.if1.false, ne_eqb s.args.cols 0 e.if2.false)
-    (holds_more (start ++ signed (value v)) (row_end last) (holds_more start (signed (value v)) r.row-start.ensures (put v) (omega (arith, ends v))) c.with-end.ensures (omega (arith, long c.with-end.ensures, ends v, end-one last)))
+    rw (lt-ltb s.args.i (length s.args.values.now) e.before.if-values-i.false, ne_eqb s.args.cols 0 e.if-cols-eq0.false)
+    (holds_more (start ++ signed (value v)) (row_end last) (holds_more start (signed (value v)) r.row_start.ensures (put v) (omega (arith, ends v))) c.with_end.ensures (omega (arith, long c.with_end.ensures, ends v, end-one last)))
 
-pub value-piece-spec : {M : Type 1} → statement M
-value-piece-spec =
+pub value_piece_spec : {M : Type 1} → statement M
+value_piece_spec =
     tie.close
     (tie.spec
     nothing-requires

@@ -15,34 +15,28 @@ use Rattle.display.proofs.pieces.with_list.Tie as tie
 full : (s : tie.Start) → length s.args.piece.bytes ≡ piece_most
 full s = search rules
 
-all : (s : tie.Start) → length s.args.t2 ≡ layers_most
+all : (s : tie.Start) → length s.args.numbers ≡ layers_most
 all s = search rules
 
-slice-aggregate-put-joined : tie.Need-slice-aggregate-put-joined
+slice-aggregate-put-joined : tie.Need-slice_bounds-put_joined-end
 slice-aggregate-put-joined c = search rules
 
-array-share-prefix-numbers : tie.Need-array-share-prefix-numbers
+array-share-prefix-numbers : tie.Need-slice_bounds-numbers-end
 array-share-prefix-numbers c = search rules
 
-slice-aggregate-put-joined-2 : tie.Need-slice-aggregate-put-joined-2
-slice-aggregate-put-joined-2 c = let s = c.before.before.before in sym (length-take-le s.args.count s.args.t2 (omega (arith, all s, s.requires)))
+slice-aggregate-put-joined-2 : tie.Need-slice_bounds-put_joined-end-2
+slice-aggregate-put-joined-2 c = let s = c.before.before.before in sym (length-take-le s.args.count s.args.numbers (omega (arith, all s, s.requires)))
 
-put-joined-requires : tie.Need-put-joined-requires
+put-joined-requires : tie.Need-put_joined-length-requires
 put-joined-requires c κs = search rules
 
 returns : tie.Need-returns
 returns c =
-    let p = c.before.put-joined.ensures in
+    let p = c.before.put_joined-length.ensures in
     let s = c.before.before.before.before.before in
-    let fits = put-fits s.args.piece.bytes s.args.piece.length (joined (take s.args.count s.args.t2)) (omega (arith, full s, s.requires)) in
+    let fits = put-fits s.args.piece.bytes s.args.piece.length (joined (take s.args.count s.args.numbers)) (omega (arith, full s, s.requires)) in
     ap₂ piece (p.1 ∙ fits.1) (p.0 ∙ fits.0)
 
-pub with-list-spec : {M : Type 1} → statement M
-with-list-spec =
-    tie.close
-    (tie.spec
-    slice-aggregate-put-joined
-    array-share-prefix-numbers
-    slice-aggregate-put-joined-2
-    put-joined-requires
-    returns)
+pub with_list_spec : {M : Type 1} → statement M
+with_list_spec =
+    tie.close (tie.spec slice-aggregate-put-joined array-share-prefix-numbers slice-aggregate-put-joined-2 put-joined-requires returns)

@@ -9,35 +9,32 @@ use borrow.Author.Rules.{rules}
 use Rattle.display.proofs.printing.compare_in.Statement.{statement}
 use Rattle.display.proofs.printing.compare_in.Tie as tie
 
-compared-of-requires : tie.Need-compared-of-requires
+compared-of-requires : tie.Need-compared_of-compared-requires
 compared-of-requires c κs = search rules
 
 refuse-requires : tie.Need-refuse-requires
 refuse-requires c κs = search rules
 
-same_length : tie.Need-same-length
+same_length : tie.Need-shape_of-coefficients1-then-compared-ne0
 same_length c = search rules
 
-same-length-2 : tie.Need-same-length-2
+same-length-2 : tie.Need-shape_of-values1-then-compared-ne0
 same-length-2 c = search rules
 
-same-length-3 : tie.Need-same-length-3
+same-length-3 : tie.Need-shape_of-coefficients2-then-compared-ne0
 same-length-3 c = search rules
 
-same-length-4 : tie.Need-same-length-4
+same-length-4 : tie.Need-shape_of-values2-then-compared-ne0
 same-length-4 c = search rules
 
-same-length-5 : tie.Need-same-length-5
+same-length-5 : tie.Need-shape_of-apart-then-compared-ne0
 same-length-5 c = search rules
 
-same-length-6 : tie.Need-same-length-6
+same-length-6 : tie.Need-shape_of-page-then-compared-ne0
 same-length-6 c = search rules
 
-returns : tie.Need-returns
-returns c = c.refuse.ensures ∙ ap (λ (x : Compared). x.number) c.before.before.before.before.before.before.before.before.before.before.before.compared-of.ensures.0
-
-slice-aggregate-line : tie.Need-slice-aggregate-line
-slice-aggregate-line c = search rules
+returns : tie.Need-returns-then-compared-ne0
+returns c = c.refuse.ensures ∙ ap (λ (x : Compared). x.number) c.compared_of-compared.ensures.0
 
 line-requires : tie.Need-line-requires
 line-requires c κs = search rules
@@ -48,52 +45,51 @@ write-requires c κs =
     let within = holds-within _ c.line.ensures in
     omega (arith, within)
 
-first-line-requires : tie.Need-first-line-requires
+first-line-requires : tie.Need-first_line-requires
 first-line-requires c κs = search rules
 
 write-requires-2 : tie.Need-write-requires-2
 write-requires-2 c κs =
-    let full : length c.first-line.result.bytes ≡ piece_most = search rules in
-    let within = holds-within _ c.first-line.ensures in
+    let full : length c.first_line.result.bytes ≡ piece_most = search rules in
+    let within = holds-within _ c.first_line.ensures in
     omega (arith, within)
 
-page-long : (w : tie.After-compared-of) → length w.compared-of.new.1.1.1.1.1.1.1.0 ≡ marks_most
-page-long w = w.compared-of.auto.1.1.1.1.1.1.1.0 ∙ w.before.before.before.before.before.before.before.before.before.before.before.requires.5
+page-long : (c : tie.After-write-2) → length c.compared_of-compared.new.page ≡ marks_most
+page-long c = c.compared_of-compared.auto.page ∙ c.requires.5
 
-slice-reshare-prefix-write-all : tie.Need-slice-reshare-prefix-write-all
-slice-reshare-prefix-write-all c = let w = c.before.before.before.before.before.before.before.before.before.before.before.before.before.before.before in omega (arith, w.compared-of.ensures.1, page-long w)
+slice-reshare-prefix-write-all : tie.Need-slice_bounds-write_all-end
+slice-reshare-prefix-write-all c = omega (arith, c.compared_of-compared.ensures.1, page-long c)
 
-slice-aggregate-write-all : tie.Need-slice-aggregate-write-all
+slice-aggregate-write-all : tie.Need-slice_bounds-write_all-end-2
 slice-aggregate-write-all c =
-    let w = c.before.before.before.before.before.before.before.before.before.before.before.before.before.before.before.before in
-    omega (arith, w.compared-of.ensures.1, page-long w, length-take w.compared-of.result.length w.compared-of.new.1.1.1.1.1.1.1.0)
+    omega (arith, c.compared_of-compared.ensures.1, page-long c, length-take c.compared_of-compared.result.length c.compared_of-compared.new.page)
 
-write-all-requires : tie.Need-write-all-requires
+write-all-requires : tie.Need-write_all-requires
 write-all-requires c κs = search rules
 
-same-length-7 : tie.Need-same-length-7
+same-length-7 : tie.Need-shape_of-coefficients1
 same-length-7 c = search rules
 
-same-length-8 : tie.Need-same-length-8
+same-length-8 : tie.Need-shape_of-values1
 same-length-8 c = search rules
 
-same-length-9 : tie.Need-same-length-9
+same-length-9 : tie.Need-shape_of-coefficients2
 same-length-9 c = search rules
 
-same-length-10 : tie.Need-same-length-10
+same-length-10 : tie.Need-shape_of-values2
 same-length-10 c = search rules
 
-same-length-11 : tie.Need-same-length-11
+same-length-11 : tie.Need-shape_of-apart
 same-length-11 c = search rules
 
-same-length-12 : tie.Need-same-length-12
+same-length-12 : tie.Need-shape_of-page
 same-length-12 c = search rules
 
-returns-2 : tie.Need-returns-2
-returns-2 c = ap (λ (x : Compared). x.number) c.before.before.before.before.before.before.before.before.before.before.before.before.before.before.before.before.before.compared-of.ensures.0
+returns-2 : tie.Need-returns
+returns-2 c = ap (λ (x : Compared). x.number) c.compared_of-compared.ensures.0
 
-pub compare-in-spec : {M : Type 1} → statement M
-compare-in-spec =
+pub compare_in_spec : {M : Type 1} → statement M
+compare_in_spec =
     tie.close
     (tie.spec
     compared-of-requires
@@ -105,7 +101,6 @@ compare-in-spec =
     same-length-5
     same-length-6
     returns
-    slice-aggregate-line
     line-requires
     write-requires
     first-line-requires

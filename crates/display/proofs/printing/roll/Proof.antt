@@ -8,35 +8,35 @@ use Rattle.display.specs.Workings.{buffer_bytes}
 use Rattle.display.proofs.printing.roll.Statement.{statement}
 use Rattle.display.proofs.printing.roll.Tie as tie
 
-number-of-requires : tie.Need-number-of-requires
+number-of-requires : tie.Need-number_of-requires
 number-of-requires c κs = search rules
 
 refuse-requires : tie.Need-refuse-requires
 refuse-requires c κs = search rules
 
-returns : tie.Need-returns
-returns c = c.refuse.ensures ∙ c.before.number_of_lem.ensures
+returns : tie.Need-returns-then-bytes-ge-BUFFER
+returns c = c.refuse.ensures ∙ c.before.number_of.ensures
 
-slice-aggregate-roll-in : tie.Need-slice-aggregate-roll-in
+slice-aggregate-roll-in : tie.Need-slice_bounds-roll_in-end
 slice-aggregate-roll-in c = search rules
 
-slice-aggregate-roll-in-2 : tie.Need-slice-aggregate-roll-in-2
+slice-aggregate-roll-in-2 : tie.Need-slice_bounds-roll_in-end-2
 slice-aggregate-roll-in-2 c = search rules
 
-slice-aggregate-roll-in-3 : tie.Need-slice-aggregate-roll-in-3
+slice-aggregate-roll-in-3 : tie.Need-slice_bounds-roll_in-end-3
 slice-aggregate-roll-in-3 c = search rules
 
-roll-in-requires : tie.Need-roll-in-requires
+roll-in-requires : tie.Need-roll_in-requires
 roll-in-requires c κs = (refl, refl, simp length-replicate (omega arith))
 
-returns-2 : tie.Need-returns-2
+returns-2 : tie.Need-returns
 returns-2 c =
     let r = c.before.before.before in
     let bs = r.before.before.before.before.before.before.args.bytes.now in
-    rw (lt-ltb (length bs) buffer_bytes (omega arith)) r.roll-in.ensures
+    rw (lt-ltb (length bs) buffer_bytes (omega arith)) r.roll_in.ensures
 
-pub roll-spec : {M : Type 1} → statement M
-roll-spec =
+pub roll_spec : {M : Type 1} → statement M
+roll_spec =
     tie.close
     (tie.spec
     number-of-requires

@@ -5,49 +5,48 @@ use borrow.Author.Rules.{rules}
 use Rattle.display.proofs.printing.roll_in.Statement.{statement}
 use Rattle.display.proofs.printing.roll_in.Tie as tie
 
-rolled-of-requires : tie.Need-rolled-of-requires
+rolled-of-requires : tie.Need-rolled_of-rolled-requires
 rolled-of-requires c κs = search rules
 
 refuse-requires : tie.Need-refuse-requires
 refuse-requires c κs = search rules
 
-same_length : tie.Need-same-length
+same_length : tie.Need-shape_of-coefficients-then-rolled-ne0
 same_length c = search rules
 
-same-length-2 : tie.Need-same-length-2
+same-length-2 : tie.Need-shape_of-values-then-rolled-ne0
 same-length-2 c = search rules
 
-same-length-3 : tie.Need-same-length-3
+same-length-3 : tie.Need-shape_of-page-then-rolled-ne0
 same-length-3 c = search rules
 
-returns : tie.Need-returns
+returns : tie.Need-returns-then-rolled-ne0
 returns c = search rules
 
-slice-reshare-prefix-write-all : tie.Need-slice-reshare-prefix-write-all
+slice-reshare-prefix-write-all : tie.Need-slice_bounds-write_all-end
 slice-reshare-prefix-write-all c = search rules
 
-slice-aggregate-write-all : tie.Need-slice-aggregate-write-all
+slice-aggregate-write-all : tie.Need-slice_bounds-write_all-end-2
 slice-aggregate-write-all c =
-    let r = c.before.before.before.before.before.before.before in
-    omega (arith, length-take r.rolled-of.result.length r.rolled-of.new.1.1.1.0)
+    omega (arith, length-take c.rolled_of-rolled.result.length c.rolled_of-rolled.new.page)
 
-write-all-requires : tie.Need-write-all-requires
+write-all-requires : tie.Need-write_all-requires
 write-all-requires c κs = search rules
 
-same-length-4 : tie.Need-same-length-4
+same-length-4 : tie.Need-shape_of-coefficients
 same-length-4 c = search rules
 
-same-length-5 : tie.Need-same-length-5
+same-length-5 : tie.Need-shape_of-values
 same-length-5 c = search rules
 
-same-length-6 : tie.Need-same-length-6
+same-length-6 : tie.Need-shape_of-page
 same-length-6 c = search rules
 
-returns-2 : tie.Need-returns-2
+returns-2 : tie.Need-returns
 returns-2 c = search rules
 
-pub roll-in-spec : {M : Type 1} → statement M
-roll-in-spec =
+pub roll_in_spec : {M : Type 1} → statement M
+roll_in_spec =
     tie.close
     (tie.spec
     rolled-of-requires

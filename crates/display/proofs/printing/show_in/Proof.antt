@@ -10,45 +10,45 @@ use borrow.Author.Rules.{rules}
 use Rattle.display.proofs.printing.show_in.Statement.{statement}
 use Rattle.display.proofs.printing.show_in.Tie as tie
 
-shown-of-requires : tie.Need-shown-of-requires
+shown-of-requires : tie.Need-shown_of-shown-requires
 shown-of-requires c κs = search rules
 
-points-requires : tie.Need-points-requires
+points-requires : tie.Need-points-points-requires
 points-requires c κs = search rules
 
-long : (c : tie.After-shown-of) → length c.Shown-of.new.1.1.0 ≡ points_most
-long c = c.Shown-of.auto.1.1.0 ∙ ap length c.before.before.before.before.requires.1 ∙ length-replicate points_most (pos 0)
+long : (c : tie.After-shown_of-shown) → length c.shown_of-shown.new.values ≡ points_most
+long c = c.shown_of-shown.auto.values ∙ ap length c.requires.1 ∙ length-replicate points_most (pos 0)
 
 -- so many points
-abbrev N : tie.After-points → ℕ
-N p = p.points.result
+abbrev N : tie.After-points-points → ℕ
+N p = p.points-points.result
 
-abbrev D : tie.After-points → tie.After-shown-of
+abbrev D : tie.After-points-points → tie.After-shown_of-shown
 D p = p.before.before.before.before
 
-small : (p : tie.After-points) → N p ≤ points_most
-small p = let d = D p in omega (arith, p.points.ensures, d.Shown-of.ensures.2, d.Shown-of.ensures.3)
+small : (p : tie.After-points-points) → N p ≤ points_most
+small p = omega (arith, p.points-points.ensures, p.shown_of-shown.ensures.2, p.shown_of-shown.ensures.3)
 
-slice-reshare-prefix-print : tie.Need-slice-reshare-prefix-print
-slice-reshare-prefix-print p = omega (arith, long (D p), small p)
+slice-reshare-prefix-print : tie.Need-slice_bounds-print-end
+slice-reshare-prefix-print c = omega (arith, long (D c), small c)
 
-slice-aggregate-print : tie.Need-slice-aggregate-print
-slice-aggregate-print c = let p = c.before in omega (arith, long (D p), small p, length-take (N p) (D p).Shown-of.new.1.1.0)
+slice-aggregate-print : tie.Need-slice_bounds-print-end-2
+slice-aggregate-print c = omega (arith, long (D c), small c, length-take (N c) c.shown_of-shown.new.values)
 
 print-requires : tie.Need-print-requires
-print-requires c κs = let p = c.before in omega (arith, small p, length-take (N p) (D p).Shown-of.new.1.1.0)
+print-requires c κs = omega (arith, small c, length-take (N c) c.shown_of-shown.new.values)
 
-same_length : tie.Need-same-length
+same_length : tie.Need-shape_of-coefficients
 same_length c = search rules
 
-same-length-2 : tie.Need-same-length-2
+same-length-2 : tie.Need-shape_of-values
 same-length-2 c = search rules
 
 returns : tie.Need-returns
-returns c = ap (λ (s : Shown). s.number) (D c.before.before).Shown-of.ensures.0
+returns c = ap (λ (s : Shown). s.number) c.shown_of-shown.ensures.0
 
-pub show-in-spec : {M : Type 1} → statement M
-show-in-spec =
+pub show_in_spec : {M : Type 1} → statement M
+show_in_spec =
     tie.close
     (tie.spec
     shown-of-requires

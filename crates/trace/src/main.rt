@@ -1,10 +1,20 @@
-// The program trace: a word for each thing that people do with a card. Its main is C's (programs/trace.c), since a program in Rattle has no exit status.
-ghost use Rattle.std.specs.Prelude.{◌≡◌};
+// The program trace: a word for each thing that people do with a card.
+#![tactic(auto)]
+
+ghost use Rattle.std.specs.Prelude.{◌≡◌, pos, IfSome};
+ghost use Rattle.std.specs.Process.{exit_status};
 ghost use Rattle.io.specs.Counts.{IsPrefixLen};
 ghost use Rattle.trace.specs.Words as W;
+ghost use Rattle.trace.specs.Workings.{IsStatus};
 
 use display::{BUFFER, Input};
-use libc::{STDERR_FILENO, STDIN_FILENO};
+use std::env::{Env, FillError};
+use std::fs::File;
+use std::io::Read;
+use std::os::fd::AsRawFd;
+use std::process::ExitCode;
+use std::rt::Files;
+use std::{fs, str};
 
 // What to do: with the card on standard input, or with the two that are named.
 #[derive(Clone, Copy)]
@@ -27,6 +37,11 @@ const WORD: usize = 1;
 const FIRST_NAME: usize = 2;
 
 const SECOND_NAME: usize = 3;
+
+// The descriptors that a program starts with.
+const STDIN: i32 = 0;
+
+const STDERR: i32 = 2;
 
 fn is(text: &[u8], word: &[u8]) -> bool
     ensures { result ≡ W.is text.now word.now }
@@ -85,84 +100,107 @@ fn words() -> i32
     ensures { result ≡ W.no_word }
 {
     io::write_all(
-        STDERR_FILENO,
+        STDERR,
         b"usage: trace WORD < CARD, or trace compare CARD CARD\n",
     );
     io::write_all(
-        STDERR_FILENO,
+        STDERR,
         b"  show     sizes, planes loaded, figure and values\n",
     );
     io::write_all(
-        STDERR_FILENO,
+        STDERR,
         b"  roll     the figure, then a line for each value: row, column, value\n",
     );
     io::write_all(
-        STDERR_FILENO,
+        STDERR,
         b"  compare  how many points are apart, the first, then a line for each row: 0 agree, 1 apart\n",
     );
     NO_WORD
 }
 
 // Shows the card on standard input, and answers the exit status.
-fn show() -> i32 {
+fn show() -> i32
+    ensures { IsStatus result }
+{
     let mut buffer = [0u8; BUFFER];
-    let input = display::read(STDIN_FILENO, &mut buffer);
+    let input = display::read(STDIN, &mut buffer);
     let n = input.length;
     status_of(display::show(&buffer[..n], input.ends))
 }
 
 // Prints its roll, and answers likewise.
-fn roll() -> i32 {
+fn roll() -> i32
+    ensures { IsStatus result }
+{
     let mut buffer = [0u8; BUFFER];
-    let input = display::read(STDIN_FILENO, &mut buffer);
+    let input = display::read(STDIN, &mut buffer);
     let n = input.length;
     status_of(display::roll(&buffer[..n], input.ends))
 }
 
-// Opens the file that argument i names, for reading; below 0 where it cannot be read. Reading no bytes tells: a folder can be opened and not read.
-fn open(i: usize) -> i32 {
-    let mut name = io::buffer();
-    let length = os::arg(i, &mut name);
-    let file = os::open_read(&name[..length]);
-    if libc::read(file, &mut name[..0]) < 0 {
-        libc::close(file);
-        return -1;
+// How many bytes argument i has, which then stand at the front of `text`; none where there is no such argument. One that is too long counts as empty.
+fn argument(rt: &impl Env, i: usize, text: &mut [u8]) -> Option<usize>
+    ensures { IfSome result (λ n. IsPrefixLen n text.new) }
+{
+    match rt.arg(i, text) {
+        Ok(length) => Some(length),
+        Err(FillError::TooLong) => Some(0),
+        Err(FillError::NotPresent) => None,
     }
-    file
+}
+
+// How many arguments there are behind the word.
+fn names_behind(rt: &impl Env) -> usize {
+    let mut name = io::buffer();
+    for i in FIRST_NAME..usize::MAX {
+        if argument(rt, i, &mut name).is_none() {
+            return i - FIRST_NAME;
+        }
+    }
+    usize::MAX - FIRST_NAME
+}
+
+// Opens the file that argument i names, for reading; none where it cannot be read, as where the name is not UTF-8. Reading no bytes tells: a folder can be
+// opened and not read.
+fn open<R: Env + Files>(rt: &R, i: usize) -> Option<R::File> {
+    let mut name = io::buffer();
+    let length = argument(rt, i, &mut name)?;
+    let path = str::from_utf8(&name[..length]).ok()?;
+    let mut file = fs::open(rt, path).ok()?;
+    file.read(&mut name[..0]).ok()?;
+    Some(file)
 }
 
 // Says that it cannot be read, and answers that status.
-fn not_read(i: usize) -> i32
+fn not_read(rt: &impl Env, i: usize) -> i32
     ensures { result ≡ W.no_file }
 {
     let mut name = io::buffer();
-    let length = os::arg(i, &mut name);
-    io::write_all(STDERR_FILENO, &name[..length]);
-    io::write_all(STDERR_FILENO, b": cannot be read\n");
+    let length = argument(rt, i, &mut name).unwrap_or(0);
+    io::write_all(STDERR, &name[..length]);
+    io::write_all(STDERR, b": cannot be read\n");
     NO_FILE
 }
 
 // Reads a file that was opened, and closes it.
-fn take(file: i32, buffer: &mut [u8]) -> Input
+fn take(file: File, buffer: &mut [u8]) -> Input
     ensures { IsPrefixLen result.length buffer.new }
 {
-    let input = display::read(file, buffer);
-    libc::close(file);
-    input
+    display::read(file.as_raw_fd(), buffer)
 }
 
 // Compares the two cards that are named, and answers the exit status. Where the first cannot be read, the second is not looked at.
-fn compare() -> i32 {
-    let file1 = open(FIRST_NAME);
-    if file1 < 0 {
-        return not_read(FIRST_NAME);
-    }
+fn compare(rt: &(impl Env + Files<File = File>)) -> i32
+    ensures { IsStatus result }
+{
+    let Some(file1) = open(rt, FIRST_NAME) else {
+        return not_read(rt, FIRST_NAME);
+    };
     let mut buffer1 = [0u8; BUFFER];
     let input1 = take(file1, &mut buffer1);
-    let file2 = open(SECOND_NAME);
-    if file2 < 0 {
-        return not_read(SECOND_NAME);
-    }
+    let Some(file2) = open(rt, SECOND_NAME) else {
+        return not_read(rt, SECOND_NAME);
+    };
     let mut buffer2 = [0u8; BUFFER];
     let input2 = take(file2, &mut buffer2);
     let n1 = input1.length;
@@ -171,23 +209,36 @@ fn compare() -> i32 {
 }
 
 // Does what a word says, and answers the exit status.
-fn run(word: Word) -> i32 {
+fn run(rt: &(impl Env + Files<File = File>), word: Word) -> i32
+    ensures { IsStatus result }
+{
     match word {
         Word::Show => show(),
         Word::Roll => roll(),
-        Word::Compare => compare(),
+        Word::Compare => compare(rt),
         Word::Unknown => words(),
     }
 }
 
-// The program: its first argument is a word, and the others are names.
-#[unsafe(no_mangle)]
-pub extern "C" fn trace_run() -> i32 {
-    let count = os::arg_count();
-    if count <= WORD {
-        return words();
-    }
+// Does what the first argument says, of which the others are names, and answers the exit status.
+fn answer(rt: &(impl Env + Files<File = File>)) -> i32
+    ensures { IsStatus result }
+{
     let mut text = io::buffer();
-    let length = os::arg(WORD, &mut text);
-    run(asked(&text[..length], count - FIRST_NAME))
+    let Some(length) = argument(rt, WORD, &mut text) else {
+        return words();
+    };
+    run(rt, asked(&text[..length], names_behind(rt)))
+}
+
+// The program's own form of a status.
+fn code_of(status: i32) -> ExitCode
+    requires { IsStatus status }
+    ensures { pos (exit_status result) ≡ status }
+{
+    ExitCode::from(status as u8)
+}
+
+fn main(rt: HostRuntime) -> ExitCode {
+    code_of(answer(&rt))
 }
