@@ -1,6 +1,6 @@
 -- Losses as measured: a largest distance bounds every distance, some point has it, and it stands in the line where the laws of numbers laid layer by layer say.
 use mathlib.Core.List.{List}
-use Prim.Native.Nat.{ℕ, ◌<◌, ◌≤◌}
+use Prim.Native.Nat.{ℕ, ◌<◌}
 use lib.IntN.{ℤ}
 use Rattle.integers.specs.Distance.{Near}
 use Rattle.integers.proofs.Near.{near-is}

@@ -1,9 +1,7 @@
 -- Look before refining: whatever a preview answers, it leaves coefficients and values as they were, so that the refinement after it is the one of which it speaks; and a list of calls is its refinements, by induction on the list.
-use mathlib.Core.Bool.{false}
 use mathlib.Core.List.{List, [], ◌∷◌}
-use mathlib.Core.Path.{◌≡◌, refl, sym, ap, ap₂, ◌∙◌}
+use mathlib.Core.Path.{◌≡◌, refl, ap, ◌∙◌}
 use Prim.Native.Nat.{ℕ}
-use lib.Dec.{eqb}
 use lib.IntN.{ℤ}
 use lib.ListN.{length}
 use Rattle.header.specs.declared.Plan.{Plan}

@@ -38,7 +38,7 @@ use Rattle.card.specs.Reading.{Reading, read_whole, read_opened, showing}
 use Rattle.card.specs.Reading as R
 use Rattle.card.specs.Refining.{refine_layer, refine_opened, refining}
 use Rattle.card.proofs.ReadCall.{lengths-good, checked-none}
-use Rattle.preview.specs.Previewing.{Previewing, unless, seen, next_refusal, previewing}
+use Rattle.preview.specs.Previewing.{unless, seen, next_refusal, previewing}
 use Rattle.compare.specs.Comparing.{Lent, same_size, size_refusal, compared, comparing}
 use Rattle.roll.specs.Page.{page_text}
 use Rattle.roll.specs.Rolling.{printed, rolled, rolling}

@@ -1,11 +1,11 @@
 -- What the line of a card tells of a layer is what was measured of it: the line is laid layer by layer, so a layer's numbers stand behind those of the layers before it. So the figure of a plan of such a card is by the measured losses.
 use mathlib.Core.List.{List}
-use mathlib.Core.Path.{◌≡◌, refl, sym, ap, ◌∙◌}
-use Prim.Native.Nat.{ℕ, zero, suc, ◌+◌, ◌*◌, ◌-◌, ◌<◌, ◌≤◌}
+use mathlib.Core.Path.{◌≡◌, ap}
+use Prim.Native.Nat.{ℕ, zero, suc, ◌+◌, ◌*◌, ◌<◌, ◌≤◌}
 use native.Mathlib.Decide.{dec_lt}
 use native.Mathlib.Omega.{arith}
 use lib.IntN.{ℤ}
-use lib.ListN.{get_or, get_or-eq_default}
+use lib.ListN.{get_or-eq_default}
 use Rattle.digits.specs.Digits.{loss}
 use Rattle.digits.proofs.Expansion.{away-none}
 use Rattle.sheet.specs.declared.Shape.{Shape}

@@ -1,5 +1,5 @@
 -- An error between two bounds, and what a curve carries them to: for figures with two ends, which are to come.
-use Prim.Native.Nat.{◌*◌, ◌+◌, ◌≤◌}
+use Prim.Native.Nat.{◌+◌, ◌≤◌}
 use lib.IntN.{ℤ, pos, neg_ℤ, ◌-ℤ◌, ◌*ℤ◌}
 use Rattle.integers.specs.Distance.{up, down}
 use Rattle.integers.specs.Floor.{floor_div}

@@ -11,7 +11,6 @@ use Rattle.header.specs.Header.{places_most, cell_bytes, cell_points, plane_cell
 use Rattle.packing.specs.Workings.Words.{block_start, words_most}
 use Rattle.loading.specs.InBytes.{bit_at, fine_bits, among_top, bit_of, loaded, bad_slot, first_bad, word_read}
 use Rattle.loading.specs.declared.Placed.{Placed}
-use Rattle.loading.specs.declared.Placed.TheVariants as Placed
 use Rattle.loading.specs.declared.Loaded.{Loaded}
 use Rattle.loading.specs.declared.Loaded.TheVariants.{Fine, Bad}
 use Rattle.order.specs.CardOrder.{slot_layer, slots, cells_before}
