@@ -149,7 +149,7 @@ fn argument(rt: &impl Env, i: usize, text: &mut [u8]) -> Option<usize>
     }
 }
 
-// How many arguments there are behind the word.
+// How many arguments there are behind the word. The turns are more than any arguments use up.
 fn names_behind(rt: &impl Env) -> usize {
     let mut name = io::buffer();
     for i in FIRST_NAME..usize::MAX {
@@ -221,7 +221,7 @@ fn run(rt: &(impl Env + Files<File = File>), word: Word) -> i32
 }
 
 // Does what the first argument says, of which the others are names, and answers the exit status.
-fn answer(rt: &(impl Env + Files<File = File>)) -> i32
+fn trace_run(rt: &(impl Env + Files<File = File>)) -> i32
     ensures { IsStatus result }
 {
     let mut text = io::buffer();
@@ -240,5 +240,5 @@ fn code_of(status: i32) -> ExitCode
 }
 
 fn main(rt: HostRuntime) -> ExitCode {
-    code_of(answer(&rt))
+    code_of(trace_run(&rt))
 }
