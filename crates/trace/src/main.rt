@@ -221,7 +221,7 @@ fn run(rt: &(impl Env + Files<File = File>), word: Word) -> i32
 }
 
 // Does what the first argument says, of which the others are names, and answers the exit status.
-fn trace_run(rt: &(impl Env + Files<File = File>)) -> i32
+pub fn trace_run(rt: &(impl Env + Files<File = File>)) -> i32
     ensures { IsStatus result }
 {
     let mut text = io::buffer();

@@ -1,6 +1,5 @@
 //! The model, one file for each idea of docs/CARD.md. All but the roll, comparing, previewing, the program trace, what narrow layers carry,
-//! what missing digits count as and losses as measured was written before that document, from the customer's request. Losses as measured were
-//! written from request 7, in the words of docs/CARD.md. None of it shares code or structure with the proved side.
+//! what missing digits count as and losses as measured was written before that document, from the customer's request; none of it shares code or structure with the proved side.
 
 pub mod compare;
 pub mod digits;
