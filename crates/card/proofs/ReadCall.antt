@@ -16,7 +16,7 @@ use Rattle.layers.specs.Layering.{layering, rebuilt}
 use Rattle.sheet.specs.Limits.{layers_most, step_most}
 use Rattle.sheet.specs.Lists.{at}
 use Rattle.sheet.specs.Sheet.{points, layers}
-use Rattle.sheet.proofs.Lists.{get_d_tabulate}
+use Rattle.sheet.proofs.Lists.{get_or-tabulate}
 use Rattle.layers.proofs.Counted.{counted_same}
 use Rattle.layers.proofs.Answers.{full-yes, full-long}
 use Rattle.header.specs.declared.Header.{Header}
@@ -64,7 +64,7 @@ module _ (h : Header) (r : well_formed h ≡ true) (plan : Plan) where
   unfolding middles_of
   middle-at k hk =
       let s = right-yes h r in
-      get_d_tabulate layers_most _ k (pos 0) (omega (arith, layers-few s)) ∙ ap middle (omega (arith, few-planes s k hk))
+      get_or-tabulate layers_most _ k (pos 0) (omega (arith, layers-few s)) ∙ ap middle (omega (arith, few-planes s k hk))
 
   values-are : (qs vs : List ℤ) → length qs ≡ points h.shape → length vs ≡ points h.shape
       → rebuilding h.shape h.curve h.step (middles_of h plan) qs vs ≡ values_with h plan qs

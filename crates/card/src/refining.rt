@@ -49,8 +49,8 @@ fn refine_layer(
     coefficients: &mut [i32],
     values: &mut [i64],
 ) -> Reached
-    requires header_value { (O.well_formed header ≡ true) × (at ≤ length bytes.now) × (whole ≡ whole_of bytes.now header at) }
-    requires header_value_2 { (R.good_lengths coefficients.old values.old header ≡ true) × (N.first_over (Hd.planes_of header) (N.loads plan) ≡ layers_most) }
+    requires opened { (O.well_formed header ≡ true) × (at ≤ length bytes.now) × (whole ≡ whole_of bytes.now header at) }
+    requires fits { (R.good_lengths coefficients.old values.old header ≡ true) × (N.first_over (Hd.planes_of header) (N.loads plan) ≡ layers_most) }
     ensures { R.as_reading result coefficients.new values.new ≡ F.refine_layer coefficients.old values.old bytes.now header losses.now at plan layer }
 {
     let shape = header.shape;

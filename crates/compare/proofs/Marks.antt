@@ -6,7 +6,7 @@ use native.Mathlib.Omega.{arith}
 use lib.ListN.{length}
 use Rattle.integers.proofs.Bools.{by}
 use Rattle.sheet.specs.Lists.{count, nth}
-use Rattle.sheet.proofs.Lists.{length-tabulate, get_d_tabulate, count-never, count_same, nth-count, nth-no, nth-same}
+use Rattle.sheet.proofs.Lists.{length-tabulate, get_or-tabulate, count-never, count_same, nth-count, nth-no, nth-same}
 use Rattle.compare.specs.Comparing.{marks}
 use Rattle.compare.specs.Workings.{marked}
 
@@ -30,7 +30,7 @@ module _ (t : ℕ → Bool) (n : ℕ) where
 
   pub marked-is : (p : ℕ) → p < n → marked (marks t n) p ≡ t p
   unfolding marks
-  marked-is p h = rw (get_d_tabulate {A = ℕ} n (λ p. cond (t p) 1 0) p 0 h) (by (t p) (λ y. rw y) (λ y. rw y))
+  marked-is p h = rw (get_or-tabulate {A = ℕ} n (λ p. cond (t p) 1 0) p 0 h) (by (t p) (λ y. rw y) (λ y. rw y))
 
   pub marks-number : count (marked (marks t n)) (length (marks t n)) ≡ count t n
   marks-number = rw marks-long (count_same (marked (marks t n)) t n marked-is)

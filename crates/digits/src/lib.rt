@@ -1,5 +1,4 @@
 // Numbers to the base -2. A coefficient is an i32; a word holds its digits, digit p in bit p.
-
 #![tactic(auto)]
 
 mod table;

@@ -14,7 +14,7 @@ use Rattle.integers.proofs.Bools.{by, choice}
 use Rattle.sheet.specs.declared.Shape.{Shape}
 use Rattle.sheet.specs.Limits.{points_most}
 use Rattle.sheet.specs.Sheet.{points}
-use Rattle.sheet.proofs.Lists.{length-tabulate, get_d_tabulate, get_d-zeros}
+use Rattle.sheet.proofs.Lists.{length-tabulate, get_or-tabulate, get_or-zeros}
 use Rattle.header.specs.declared.Details.{Details}
 use Rattle.header.specs.declared.Opened.{Opened}
 use Rattle.header.specs.Opening as O
@@ -31,13 +31,13 @@ use Rattle.display.proofs.MarkLines.{marks-long}
 
 -- ---- marks are 0 or 1
 zeros-marked : (n : ℕ) → Marks (replicate n 0)
-zeros-marked n p h = omega (arith, get_d-zeros n p)
+zeros-marked n p h = omega (arith, get_or-zeros n p)
 
 marks-marked : (apart : ℕ → Bool) (n : ℕ) → Marks (marks apart n)
 unfolding marks
 marks-marked apart n p h =
     let f : ℕ → ℕ = λ p. cond (apart p) 1 0 in
-    rw (get_d_tabulate n f p 0 (omega (arith, length-tabulate n f))) (choice (λ (m : ℕ). m ≤ 1) (apart p) (λ _. omega arith) (λ _. omega arith))
+    rw (get_or-tabulate n f p 0 (omega (arith, length-tabulate n f))) (choice (λ (m : ℕ). m ≤ 1) (apart p) (λ _. omega arith) (λ _. omega arith))
 
 record Marked (c : Comparing) : Type 0 where
   marked : Marks c.apart

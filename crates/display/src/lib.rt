@@ -1,13 +1,15 @@
 // What the programs print of a card, and of two: reading it from a file, what is to be shown of its bytes, the pieces of text, and the printing, which only
-// loops and writes them.
+// loops and writes them; and the arguments and files that they ask for.
 #![tactic(auto)]
 
 mod answers;
 mod comparing;
+mod files;
 mod pieces;
 mod printing;
 mod reading;
 
+pub use files::{STDERR, STDIN, STDOUT, argument, open};
 use header::Plan;
 pub use pieces::piece_at;
 pub use printing::{compare, roll, show};

@@ -10,11 +10,8 @@ ghost use Rattle.display.specs.Workings as W;
 use crate::answers::{number_of, rolled_of, shown_of};
 use crate::comparing::compared_of;
 use crate::pieces::{first_line, line, piece_at, pieces, refused_line};
-use crate::{BUFFER, MOST_MARKS, MOST_PAGE, Piece, Shown};
+use crate::{BUFFER, MOST_MARKS, MOST_PAGE, Piece, STDOUT, Shown};
 use sheet::MOST_POINTS;
-
-// The descriptor of standard output.
-const STDOUT: i32 = 1;
 
 fn write(piece: Piece)
     requires { piece.length ≤ W.piece_most }

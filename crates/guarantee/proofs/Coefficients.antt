@@ -18,7 +18,7 @@ use Rattle.digits.proofs.Missing.{digit-back, missing-below, kept_above}
 use Rattle.sheet.specs.declared.Curve.TheVariants.{Linear}
 use Rattle.sheet.specs.Lists.{at, tabulate}
 use Rattle.sheet.specs.Sheet.{accepted, points, layers, in_layer, layer_size, point_of, place_in}
-use Rattle.sheet.proofs.Lists.{length-tabulate, get_d_tabulate}
+use Rattle.sheet.proofs.Lists.{length-tabulate, get_or-tabulate}
 use Rattle.layers.proofs.Members.{layer-no}
 use Rattle.sheet.proofs.Places.{point-on, point-in, place-point}
 use Rattle.layers.proofs.SheetLaw.{sheet-proper}
@@ -43,7 +43,7 @@ module _ (h : Header) (long : ℕ) (bs : List ℕ) where
     length-bits = length-tabulate (planes_of h k) _
 
     pub bit-at : (p : ℕ) → p < planes_of h k → get_or bits p 0 ≡ bit_of h long bs k p i
-    bit-at p l = get_d_tabulate (planes_of h k) _ p 0 l
+    bit-at p l = get_or-tabulate (planes_of h k) _ p 0 l
 
     binary-bits : Binary bits
     unfolding bit_at
@@ -58,7 +58,7 @@ module _ (h : Header) (long : ℕ) (bs : List ℕ) where
         (omega (arith, length-tabulate (planes_of h k) digit, length-truncate missing bits (omega (arith, length-bits)), length-bits))
         (λ p l.
         let named : p < planes_of h k = omega (arith, length-tabulate (planes_of h k) digit) in
-        get_d_tabulate (planes_of h k) digit p 0 named ∙ digit-is p named))
+        get_or-tabulate (planes_of h k) digit p 0 named ∙ digit-is p named))
       where
         missing : ℕ
         missing = planes_of h k - plan k
@@ -100,7 +100,7 @@ module _ (h : Header) (long : ℕ) (bs : List ℕ) where
         → at (coefs_read h long bs plan) p ≡ coef_read h long bs plan k (place_in h.shape k p)
     unfolding coefs_read
     coef-at plan p hp m =
-        get_d_tabulate (points h.shape) _ p (pos 0) hp
+        get_or-tabulate (points h.shape) _ p (pos 0) hp
         ∙ ap (λ (j : ℕ). coef_read h long bs plan j (place_in h.shape j p)) (layer-no (sheet-proper h.shape ok Linear) k p hk hp m)
 
     -- read with all planes, so many digits hold it

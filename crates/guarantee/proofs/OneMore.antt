@@ -15,7 +15,7 @@ use Rattle.sheet.specs.declared.Curve.TheVariants.{Linear}
 use Rattle.sheet.specs.Limits.{layers_most}
 use Rattle.sheet.specs.Lists.{at, tabulate}
 use Rattle.sheet.specs.Sheet.{points, layers, in_layer, place_in}
-use Rattle.sheet.proofs.Lists.{length-tabulate, get_d_tabulate}
+use Rattle.sheet.proofs.Lists.{length-tabulate, get_or-tabulate}
 use Rattle.layers.proofs.Members.{in-own, own_below}
 use Rattle.layers.proofs.SheetLaw.{sheet-proper}
 use Rattle.layers.specs.Layering.{own_layer}
@@ -97,7 +97,7 @@ module _ {h : Header} (r : WellFormed h) {long : ℕ} {bs : List ℕ} {plan : Pl
       let hp : p < points sh = omega (arith, coefs-long h long bs (loads plan)) in
       let read : (plan : ℕ → ℕ) (j : ℕ) → j < layers sh → in_layer sh j p ≡ true → at (coefs_read h long bs plan) p ≡ coef_read h long bs plan j (place_in sh j p) =
       λ plan j hj m. coef-at h long bs r.shape j hj plan p hp m in
-      get_d_tabulate _ f p (pos 0) lt
+      get_or-tabulate _ f p (pos 0) lt
       ∙ by (in_layer sh k p)
       (λ m. rw (m, read (loads plan) k hk m, read (loads more) k hk m) (sym (coef-next h long bs k (place_in sh k p) (loads plan) (loads more) here named)))
       (λ m.

@@ -15,7 +15,7 @@ use Rattle.sheet.specs.Lists.{total}
 use Rattle.sheet.specs.Limits.{layers_most}
 use Rattle.sheet.proofs.Accepting.{accepted-yes, layers-few}
 use Rattle.integers.proofs.Bools.{by}
-use Rattle.sheet.proofs.Lists.{length-tabulate, get_d_tabulate, get_d-zeros}
+use Rattle.sheet.proofs.Lists.{length-tabulate, get_or-tabulate, get_or-zeros}
 use Rattle.header.specs.Header.{cell_points, plane_cells, cells_of}
 use Rattle.header.specs.Workings.{cells_at, spans_of, cells_by}
 use Rattle.header.specs.Plan.{no_plan, loads}
@@ -42,7 +42,7 @@ module _ (sh : Shape) (ok : accepted sh ≡ true) (k : ℕ) where
 -- ---- all layers at once
 module _ (sh : Shape) (k : ℕ) where
   pub span-listed : k < layers_most → get_or (spans_of sh) k 0 ≡ cells_at sh k
-  span-listed l = get_d_tabulate layers_most (cells_at sh) k 0 l
+  span-listed l = get_or-tabulate layers_most (cells_at sh) k 0 l
 
   pub span-past : layers_most ≤ k → get_or (spans_of sh) k 0 ≡ 0
   span-past l = get_or-eq_default (spans_of sh) 0 {n = k} (omega (arith, length-tabulate layers_most (cells_at sh)))
@@ -60,7 +60,7 @@ cells-by sh ok planes = total-same _ _ layers_most (λ k l. rw (span-listed sh k
 
 -- ---- no planes
 pub none-loaded : (k : ℕ) → loads no_plan k ≡ 0
-none-loaded k = get_d-zeros layers_most k
+none-loaded k = get_or-zeros layers_most k
 
 pub none-cells : (sh : Shape) → cells_of sh no_plan.planes ≡ 0
 unfolding cells_of

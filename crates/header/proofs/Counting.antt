@@ -14,7 +14,7 @@ use Rattle.sheet.specs.declared.Shape.{Shape}
 use Rattle.sheet.specs.Limits.{layers_most}
 use Rattle.sheet.specs.Lists.{tabulate}
 use Rattle.sheet.specs.Sheet.{layers}
-use Rattle.sheet.proofs.Lists.{length-tabulate, get_d_tabulate}
+use Rattle.sheet.proofs.Lists.{length-tabulate, get_or-tabulate}
 use Rattle.integers.proofs.Bools.{by}
 use Rattle.text.specs.Text.{padded}
 use Rattle.text.specs.Line.{newline, index_of, starts, has_end}
@@ -39,11 +39,11 @@ module _ (n a : ℕ) (f : ℕ → ℕ) (few : a ≤ n) where
       ext_get_or 0 (take a (tabulate n f)) (tabulate a f) (front ∙ sym (length-tabulate a f))
       (λ i l.
       let inside : i < a = omega (arith, front) in
-      get_or-take a (tabulate n f) i 0 inside ∙ get_d_tabulate n f i 0 (omega arith) ∙ sym (get_d_tabulate a f i 0 inside))
+      get_or-take a (tabulate n f) i 0 inside ∙ get_or-tabulate n f i 0 (omega arith) ∙ sym (get_or-tabulate a f i 0 inside))
 
   module _ (none-past : (k : ℕ) → a ≤ k → f k ≡ 0) where
     rest_at : (i : ℕ) → i < n - a → get_or (drop a (tabulate n f)) i 0 ≡ get_or (replicate (n - a) 0) i 0
-    rest_at i h = get_or-drop a (tabulate n f) i 0 ∙ get_d_tabulate n f (a + i) 0 (omega arith) ∙ none-past (a + i) (omega arith) ∙ sym (get_or-replicate (n - a) i 0 0 h)
+    rest_at i h = get_or-drop a (tabulate n f) i 0 ∙ get_or-tabulate n f (a + i) 0 (omega arith) ∙ none-past (a + i) (omega arith) ∙ sym (get_or-replicate (n - a) i 0 0 h)
 
     list-rest : drop a (tabulate n f) ≡ replicate (n - a) 0
     list-rest =

@@ -7,7 +7,7 @@ use native.Mathlib.Omega.{arith}
 use lib.ListN.{length, get_or}
 use Rattle.sheet.specs.declared.Shape.{Shape}
 use Rattle.sheet.specs.Sheet.{layers}
-use Rattle.sheet.proofs.Lists.{length-tabulate, get_d_tabulate}
+use Rattle.sheet.proofs.Lists.{length-tabulate, get_or-tabulate}
 use Rattle.text.specs.Joined.{joined, numbers_in}
 use Rattle.text.proofs.Joins.{Written, written_back, read_back, within_by, within-length, within-at}
 use Rattle.header.specs.Opening.{planes_most, limits}
@@ -24,7 +24,7 @@ module _ (sh : Shape) where
 
   limit : (k : ℕ) → k < layers sh → get_or (limits sh) k 0 ≡ planes_most sh k
   unfolding limits
-  limit k h = get_d_tabulate (layers sh) (planes_most sh) k 0 h
+  limit k h = get_or-tabulate (layers sh) (planes_most sh) k 0 h
 
   pub counts-read : (text counts : List ℕ) → numbers_in (limits sh) text ≡ some counts → Counted sh text counts
   counts-read text counts e =

@@ -7,7 +7,7 @@ use borrow.Author.Count.{below_none, below_more}
 use lib.ListN.{length, get_or, set, length-set}
 use lib.Seq.{ext_get_or, get_or-set_same, get_or-set_other}
 use Rattle.sheet.specs.Lists.{tabulate}
-use Rattle.sheet.proofs.Lists.{length-tabulate, get_d_tabulate}
+use Rattle.sheet.proofs.Lists.{length-tabulate, get_or-tabulate}
 
 pub record Filled {A : Type 0} (d : A) (f : ℕ → A) (n k : ℕ) (l : List A) : Type 0 where
   pub long : length l ≡ n
@@ -29,4 +29,4 @@ module _ {A : Type 0} {d : A} (f : ℕ → A) (n : ℕ) where
   pub filled-all : {l : List A} {k : ℕ} → n ≤ k → Filled d f n k l → l ≡ tabulate n f
   filled-all {l} {k} h w =
       ext_get_or d l (tabulate n f) (w.long ∙ sym (length-tabulate n f))
-      (λ i m. w.done i (omega (arith, w.long)) ∙ sym (get_d_tabulate n f i d (omega (arith, w.long))))
+      (λ i m. w.done i (omega (arith, w.long)) ∙ sym (get_or-tabulate n f i d (omega (arith, w.long))))

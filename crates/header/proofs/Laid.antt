@@ -13,7 +13,7 @@ use Rattle.digits.specs.Digits.{loss}
 use Rattle.digits.proofs.Losses.{loss-rises}
 use Rattle.sheet.specs.Lists.{tabulate, total}
 use Rattle.sheet.specs.Sheet.{layers}
-use Rattle.sheet.proofs.Lists.{length-tabulate, get_d_tabulate, tabulate-same}
+use Rattle.sheet.proofs.Lists.{length-tabulate, get_or-tabulate, tabulate-same}
 use Rattle.text.proofs.Joins.{Within, within_by, within-length, within-at}
 use Rattle.text.proofs.Stores.{sets-sets}
 use Rattle.header.specs.declared.Header.{Header}
@@ -54,7 +54,7 @@ module _ (count : ℕ → ℕ) where
     unfolding laid
     laid-last j d l =
         let own = tabulate (count n) (λ j. f n (suc j)) in
-        (rw (laid-length f n) at (get_or-append-add (laid f count n) own j d)) ∙ get_d_tabulate (count n) (λ j. f n (suc j)) j d l
+        (rw (laid-length f n) at (get_or-append-add (laid f count n) own j d)) ∙ get_or-tabulate (count n) (λ j. f n (suc j)) j d l
 
   -- the number for d = j + 1 of layer k stands behind those of the layers before it
   pub laid-at : (f : ℕ → ℕ → ℕ) (n k j d : ℕ) → k < n → j < count k → get_or (laid f count n) (total count k + j) d ≡ f k (suc j)
@@ -98,10 +98,10 @@ LossesFit h none = Unit {0}
 LossesFit h (some ls) = Within ls (closed (planes_of h) (layers h.shape))
 
 -- where there is a number, it does not matter what would stand for none
-get_d_any : (l : List ℕ) (i c d : ℕ) → i < length l → get_or l i c ≡ get_or l i d
-get_d_any [] i c d h = absurd (not-suc-le-zero h)
-get_d_any (x ∷ l) zero c d h = refl
-get_d_any (x ∷ l) (suc i) c d h = get_d_any l i c d (omega arith)
+get_or-any : (l : List ℕ) (i c d : ℕ) → i < length l → get_or l i c ≡ get_or l i d
+get_or-any [] i c d h = absurd (not-suc-le-zero h)
+get_or-any (x ∷ l) zero c d h = refl
+get_or-any (x ∷ l) (suc i) c d h = get_or-any l i c d (omega arith)
 
 module _ (h : Header) (ls : List ℕ) (w : LossesFit h (some ls)) where
   pub fit-long : length ls ≡ total (planes_of h) (layers h.shape)
@@ -111,7 +111,7 @@ module _ (h : Header) (ls : List ℕ) (w : LossesFit h (some ls)) where
   fit-loss k j d l m =
       let i = total (planes_of h) k + j in
       let inside : i < length ls = omega (arith, fit-long, total-suc (planes_of h) k, total-rises (planes_of h) (suc k) (layers h.shape) l) in
-      omega (arith, get_d_any ls i d 0 inside, within-at ls (closed (planes_of h) (layers h.shape)) w i, laid-at (planes_of h) (λ k d. loss d) (layers h.shape) k j 0 l m)
+      omega (arith, get_or-any ls i d 0 inside, within-at ls (closed (planes_of h) (layers h.shape)) w i, laid-at (planes_of h) (λ k d. loss d) (layers h.shape) k j 0 l m)
 
 module _ {h : Header} (r : WellFormed h) where
   pub planes-few : total (planes_of h) (layers h.shape) ≤ losses_most

@@ -13,7 +13,7 @@ use Rattle.sheet.specs.Limits.{points_most, levels_most, layers_most, step_most}
 use Rattle.sheet.specs.Sheet.{layers}
 use Rattle.sheet.proofs.Accepting.{Sheet, accepted-by, layers-few}
 use Rattle.sheet.proofs.Flat.{flat-points}
-use Rattle.sheet.proofs.Lists.{get_d-zeros}
+use Rattle.sheet.proofs.Lists.{get_or-zeros}
 use Rattle.integers.proofs.Bools.{by}
 use Rattle.text.specs.Text.{padded}
 use Rattle.text.specs.Line.{newline, index_of, line_text}
@@ -56,7 +56,7 @@ pub padded-past : (counts : List ℕ) (k : ℕ) → length counts ≤ k → get_
 unfolding padded
 padded-past counts k p =
     let e : length counts + (k - length counts) ≡ k = omega arith in
-    (rw e at (get_or-append-add counts (replicate (layers_most - length counts) 0) (k - length counts) 0)) ∙ get_d-zeros (layers_most - length counts) (k - length counts)
+    (rw e at (get_or-append-add counts (replicate (layers_most - length counts) 0) (k - length counts) 0)) ∙ get_or-zeros (layers_most - length counts) (k - length counts)
 
 -- ---- a line of a key and numbers
 read-numbers : (key most l ns : List ℕ) → NumbersLine key most l ns → Ends l (key ++ joined ns) (index_of newline l + 1)

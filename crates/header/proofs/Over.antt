@@ -9,7 +9,7 @@ use lib.ListN.{get_or}
 use Rattle.digits.proofs.Firsts.{first-le, first-least, first-at, first-none, first-same}
 use Rattle.sheet.specs.Limits.{layers_most}
 use Rattle.sheet.specs.Lists.{tabulate}
-use Rattle.sheet.proofs.Lists.{get_d_tabulate}
+use Rattle.sheet.proofs.Lists.{get_or-tabulate}
 use Rattle.header.specs.Plan.{first_over}
 
 module _ (limit plan : ℕ → ℕ) where
@@ -41,4 +41,4 @@ module _ (limit plan : ℕ → ℕ) where
 pub over-listed : (limit plan : ℕ → ℕ) → first_over (λ k. get_or (tabulate layers_most limit) k 0) plan ≡ first_over limit plan
 unfolding first_over
 over-listed limit plan =
-    first-same (over (λ k. get_or (tabulate layers_most limit) k 0) plan) (over limit plan) layers_most 0 (λ k _ l. rw (get_d_tabulate layers_most limit k 0 l))
+    first-same (over (λ k. get_or (tabulate layers_most limit) k 0) plan) (over limit plan) layers_most 0 (λ k _ l. rw (get_or-tabulate layers_most limit k 0 l))

@@ -184,8 +184,8 @@ fn open_rows(bytes: &[u8]) -> Opened
 
 // Opens any bytes: the header and the losses that its line tells, put at the front of a lent table that has room for them, or the first thing that is wrong.
 pub fn open_with_losses(bytes: &[u8], losses: &mut [u32]) -> Opened
-    ensures bytes_value { O.as_opening result (O.opening bytes.now).losses ≡ O.opening bytes.now }
-    ensures losses_value { (result.losses ≡ length (L.told (O.opening bytes.now).losses)) × (losses.new ≡ Wk.putting losses.old 0 (L.told (O.opening bytes.now).losses)) }
+    ensures opens { O.as_opening result (O.opening bytes.now).losses ≡ O.opening bytes.now }
+    ensures tells { (result.losses ≡ length (L.told (O.opening bytes.now).losses)) × (losses.new ≡ Wk.putting losses.old 0 (L.told (O.opening bytes.now).losses)) }
 {
     let first = open_rows(bytes);
     let refusal = first.refusal;
@@ -200,8 +200,8 @@ pub fn open_with_losses(bytes: &[u8], losses: &mut [u32]) -> Opened
 
 // Opens any bytes, where only the header is asked for.
 pub fn open(bytes: &[u8]) -> Opened
-    ensures bytes_value { O.as_opening result (O.opening bytes.now).losses ≡ O.opening bytes.now }
-    ensures losses_value { result.losses ≡ length (L.told (O.opening bytes.now).losses) }
+    ensures opens { O.as_opening result (O.opening bytes.now).losses ≡ O.opening bytes.now }
+    ensures tells { result.losses ≡ length (L.told (O.opening bytes.now).losses) }
 {
     let mut nowhere = [0u32; 0];
     open_with_losses(bytes, &mut nowhere)

@@ -31,7 +31,7 @@ use Rattle.integers.proofs.Bools.{by, and-no-left, and-no-right}
 use Rattle.sheet.proofs.Accepting.{accepted-yes, accepted-by, two-three}
 use Rattle.sheet.proofs.Earlier.{mult, odd, even-not-odd}
 use Rattle.sheet.proofs.Cover.{Turn, turn-direction, turn-spacing, View, anchors, turned as in-level, view}
-use Rattle.sheet.proofs.Lists.{length-tabulate, get_d_tabulate, tabulate-same}
+use Rattle.sheet.proofs.Lists.{length-tabulate, get_or-tabulate, tabulate-same}
 
 -- ---- two layerings, layer by layer
 -- a layer with no points changes nothing
@@ -42,7 +42,7 @@ empty-layer : (Y : Layering) (k : ℕ) → Empty Y k → (f : ℤ → ℕ → �
 unfolding layer_by point_by
 empty-layer Y k none f ws old =
     let same = length-tabulate (length old) (point_by Y k f ws old) in
-    ext_get_or (pos 0) _ _ same (λ p h. get_d_tabulate (length old) (point_by Y k f ws old) p (pos 0) (omega arith) ∙ rw (none p))
+    ext_get_or (pos 0) _ _ same (λ p h. get_or-tabulate (length old) (point_by Y k f ws old) p (pos 0) (omega arith) ∙ rw (none p))
 
 module _ (Y Y' : Layering) where
   -- layer k of the one does at every point what layer k' of the other does

@@ -19,7 +19,7 @@ use Rattle.sheet.specs.declared.Curve.TheVariants.{Linear}
 use Rattle.sheet.specs.Lists.{at}
 use Rattle.sheet.specs.Sheet.{accepted, points, layers, in_layer}
 use Rattle.sheet.specs.Workings.Shapes.{laid}
-use Rattle.sheet.proofs.Lists.{length-tabulate, get_d_tabulate, tabulate-same}
+use Rattle.sheet.proofs.Lists.{length-tabulate, get_or-tabulate, tabulate-same}
 use Rattle.layers.specs.Prediction.{rebuilt_from}
 use Rattle.layers.specs.Layering.{layering, own_layer, point_by, layer_by, reads, counted}
 use Rattle.layers.specs.Workings.Loops.{reads_with, laid_layer, counted_most}
@@ -35,7 +35,7 @@ module _ (sh : Shape) (ok : accepted sh ≡ true) (qs : List ℤ) (long : length
   module _ (more : ℕ → ℤ) where
     pub counted-own : (p : ℕ) → p < points sh → at (counted sh more qs) p ≡ at qs p +ℤ more (own_layer sh p)
     unfolding counted
-    counted-own p hp = get_d_tabulate (length qs) _ p (pos 0) (omega (arith, long))
+    counted-own p hp = get_or-tabulate (length qs) _ p (pos 0) (omega (arith, long))
 
     pub counted-at : (k p : ℕ) → k < layers sh → p < points sh → in_layer sh k p ≡ true → at (counted sh more qs) p ≡ at qs p +ℤ more k
     counted-at k p hk hp m = counted-own p hp ∙ ap (λ (j : ℕ). at qs p +ℤ more j) (layer-no (sheet-proper sh ok Linear) k p hk hp m)

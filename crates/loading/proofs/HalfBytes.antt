@@ -7,7 +7,7 @@ use native.Mathlib.Decide.{dec_lt}
 use native.Mathlib.Omega.{arith}
 use lib.ListN.{length, get_or, get_or-eq_default}
 use Rattle.sheet.specs.Lists.{tabulate}
-use Rattle.sheet.proofs.Lists.{length-tabulate, get_d_tabulate, tabulate-same}
+use Rattle.sheet.proofs.Lists.{length-tabulate, get_or-tabulate, tabulate-same}
 use Rattle.header.specs.Header.{places_most}
 use Rattle.loading.specs.InBytes.{bit_at}
 use Rattle.loading.specs.Workings.Words.{half_at, half_bits, half_bit, halves, halved, added, words_with}
@@ -56,14 +56,14 @@ halves-down p =
     tabulate-same half_bits (λ i. get_or (tabulate half_bits (half_bit (suc p))) i 0 / 2) (half_bit p)
     (λ i l.
     let twice : half_bit (suc p) i ≡ 2 * half_bit p i = ap (λ (x : ℕ). i / 4 / 2 ^ (i % 4) % 2 * x) (two-pow-succ p) ∙ omega arith in
-    ap (λ (x : ℕ). x / 2) (get_d_tabulate half_bits (half_bit (suc p)) i 0 l ∙ twice) ∙ omega arith)
+    ap (λ (x : ℕ). x / 2) (get_or-tabulate half_bits (half_bit (suc p)) i 0 l ∙ twice) ∙ omega arith)
 
 module _ (p : ℕ) where
   pub half-small : p < places_most → (i : ℕ) → get_or (halves p) i 0 < 2 ^ 31
   unfolding halves
   half-small l i =
       elim (dec_lt i half_bits) [
-        | yes h ↦ omega (arith, get_d_tabulate half_bits (half_bit p) i 0 h, at_most (i / 4 / 2 ^ (i % 4) % 2) p 22 (omega arith) (omega arith))
+        | yes h ↦ omega (arith, get_or-tabulate half_bits (half_bit p) i 0 h, at_most (i / 4 / 2 ^ (i % 4) % 2) p 22 (omega arith) (omega arith))
         | no h ↦
             let past : length (tabulate half_bits (half_bit p)) ≤ i = omega (arith, length-tabulate half_bits (half_bit p)) in
             omega (arith, get_or-eq_default (tabulate half_bits (half_bit p)) 0 past)
@@ -76,7 +76,7 @@ module _ (p : ℕ) where
       let h = half_at bs from (i / 4) in
       let d : (4 * h + i % 4) / 4 ≡ h = omega arith in
       let m : (4 * h + i % 4) % 4 ≡ i % 4 = omega arith in
-      get_d_tabulate half_bits (half_bit p) (4 * h + i % 4) 0 (omega arith)
+      get_or-tabulate half_bits (half_bit p) (4 * h + i % 4) 0 (omega arith)
       ∙ rw (d, m) (ap (λ (x : ℕ). x * 2 ^ p) (half-bit bs from i))
 
   pub with-added : (ws : List ℕ) (start n : ℕ) (bs : List ℕ) (from : ℕ)

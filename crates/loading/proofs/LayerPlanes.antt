@@ -6,7 +6,7 @@ use borrow.Author.Tests.{lt-ltb, ltb-true, le-leb, leb-true, lt-leb}
 use lib.Dec.{ltb, leb}
 use Rattle.integers.proofs.Bools.{and_left, and_right, and_both, and-no-right}
 use Rattle.sheet.specs.Limits.{layers_most}
-use Rattle.sheet.proofs.Lists.{get_d_tabulate}
+use Rattle.sheet.proofs.Lists.{get_or-tabulate}
 use Rattle.header.specs.declared.Header.{Header}
 use Rattle.header.specs.Header.{planes_of}
 use Rattle.header.specs.Plan.{loads}
@@ -14,7 +14,7 @@ use Rattle.order.specs.CardOrder.{whole, whole_plan}
 use Rattle.loading.specs.InBytes.{loaded}
 
 pub whole-at : (h : Header) (n k : ℕ) → k < layers_most → loads (whole_plan h n) k ≡ whole h n k
-whole-at h n k l = get_d_tabulate layers_most (whole h n) k 0 l
+whole-at h n k l = get_or-tabulate layers_most (whole h n) k 0 l
 
 module _ (h : Header) (plan : ℕ → ℕ) (k p : ℕ) where
   pub loaded-yes : loaded h plan k p ≡ true → (p < planes_of h k) × (planes_of h k ≤ p + plan k)

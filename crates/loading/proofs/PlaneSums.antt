@@ -10,7 +10,7 @@ use borrow.Author.Tests.{lt-ltb, le-ltb, le-leb, lt-leb}
 use lib.Dec.{ltb, leb}
 use lib.ListN.{length, get_or, set, length-set, get_or-eq_default}
 use lib.Seq.{ext_get_or, get_or-set_same, get_or-set_other}
-use Rattle.sheet.proofs.Lists.{length-tabulate, get_d_tabulate}
+use Rattle.sheet.proofs.Lists.{length-tabulate, get_or-tabulate}
 use Rattle.loading.specs.Workings.Words.{words_with}
 
 -- a bit at place p
@@ -27,7 +27,7 @@ module _ (ws : List ℕ) (start n p : ℕ) (bit : ℕ → ℕ) where
 
   with_at : (j : ℕ) → j < length ws → get_or (words_with ws start n p bit) j 0 ≡ term j
   unfolding words_with
-  with_at j l = get_d_tabulate (length ws) term j 0 l
+  with_at j l = get_or-tabulate (length ws) term j 0 l
 
   pub with_in : (j : ℕ) → start ≤ j → j < start + n → j < length ws → get_or (words_with ws start n p bit) j 0 ≡ get_or ws j 0 + bit (j - start) * 2 ^ p
   with_in j a b l = with_at j l ∙ rw (le-leb start j a, lt-ltb j (start + n) b)

@@ -18,7 +18,7 @@ use Rattle.digits.proofs.Words.{bits-hold, bits-more}
 use Rattle.sheet.specs.declared.Curve.TheVariants.{Linear}
 use Rattle.sheet.specs.Lists.{at, tabulate, total}
 use Rattle.sheet.specs.Sheet.{points, layers, layer_size, place_in}
-use Rattle.sheet.proofs.Lists.{length-tabulate, get_d_tabulate}
+use Rattle.sheet.proofs.Lists.{length-tabulate, get_or-tabulate}
 use Rattle.layers.proofs.Members.{in-own, own_below}
 use Rattle.sheet.proofs.Places.{place-in}
 use Rattle.layers.proofs.SheetLaw.{sheet-proper}
@@ -110,7 +110,7 @@ module _ (h : Header) (long : ℕ) (bs : List ℕ) (plan : ℕ → ℕ) where
   read_held r p hp =
       let sh = h.shape in
       let k = own_layer sh p in
-      subst (Holds places_most) (sym (get_d_tabulate (points sh) _ p (pos 0) hp))
+      subst (Holds places_most) (sym (get_or-tabulate (points sh) _ p (pos 0) hp))
       (coef-held k (place_in sh k p) (few-planes r k (own_below (sheet-proper sh r.shape Linear) p hp)))
 
   -- THE READING: the numbers of all words are the coefficients that the planes of the plan give
@@ -128,10 +128,10 @@ module _ (h : Header) (long : ℕ) (bs : List ℕ) (plan : ℕ → ℕ) where
       let hk : k < layers sh = own_below proper p hp in
       let hi : i < layer_size sh k = place-in sh k p hp (in-own proper p hp) in
       let e = w.word k i hk hi in
-      get_d_tabulate n _ p (pos 0) hp
+      get_or-tabulate n _ p (pos 0) hp
       ∙ ap (λ (x : ℕ). value (bits_of 32 x)) e
       ∙ number_read k i (few-planes r k hk)
-      ∙ sym (get_d_tabulate n _ p (pos 0) hp))
+      ∙ sym (get_or-tabulate n _ p (pos 0) hp))
 
   pub read_right : (ws : List ℕ) → well_formed h ≡ true → Read h long bs plan ws → spread_all h.shape ws ≡ coefs_read h long bs plan
   read_right ws r w = read_same ws (right-yes h r) w

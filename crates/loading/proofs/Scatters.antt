@@ -16,7 +16,7 @@ use Rattle.sheet.specs.declared.Lines.{Lines}
 use Rattle.sheet.specs.Lists.{at, tabulate}
 use Rattle.sheet.specs.Sheet.{points, in_layer, layer_size, point_of, place_in}
 use Rattle.sheet.specs.Workings.Lines.{start_in, Lined}
-use Rattle.sheet.proofs.Lists.{length-tabulate, get_d_tabulate}
+use Rattle.sheet.proofs.Lists.{length-tabulate, get_or-tabulate}
 use Rattle.sheet.proofs.Places.{point-in, place-point, place-in, point-place}
 use Rattle.sheet.proofs.LinePoints.{line-room}
 use Rattle.loading.specs.Workings.Words.{Scattered}
@@ -102,9 +102,9 @@ module _ (sh : Shape) (k : ℕ) where
         by (in_layer sh k p)
         (λ y.
         let i = place_in sh k p in
-        ap (at l') (sym (point-place sh k p hp y)) ∙ s.done i (omega (arith, place-in sh k p hp y)) ∙ is p hp y ∙ sym (get_d_tabulate (length l) new p (pos 0) (omega (arith, s.same)) ∙ rw y))
+        ap (at l') (sym (point-place sh k p hp y)) ∙ s.done i (omega (arith, place-in sh k p hp y)) ∙ is p hp y ∙ sym (get_or-tabulate (length l) new p (pos 0) (omega (arith, s.same)) ∙ rw y))
         (λ y.
-        s.kept p (λ j lt q. true≢false (sym (point-in sh k j (omega arith)) ∙ ap (in_layer sh k) q ∙ y)) ∙ sym (get_d_tabulate (length l) new p (pos 0) (omega (arith, s.same)) ∙ rw y)))
+        s.kept p (λ j lt q. true≢false (sym (point-in sh k j (omega arith)) ∙ ap (in_layer sh k) q ∙ y)) ∙ sym (get_or-tabulate (length l) new p (pos 0) (omega (arith, s.same)) ∙ rw y)))
       where
         new : ℕ → ℤ
         new p = cond (in_layer sh k p) (g p) (at l p)

@@ -17,7 +17,7 @@ use Rattle.sheet.specs.Lists.{at}
 use Rattle.sheet.specs.Sheet.{accepted, points, layers, in_layer, place_in}
 use Rattle.layers.specs.Layering.{layering, own_layer}
 use Rattle.layers.proofs.Proper.{Proper}
-use Rattle.sheet.proofs.Lists.{length-tabulate, get_d_tabulate}
+use Rattle.sheet.proofs.Lists.{length-tabulate, get_or-tabulate}
 use Rattle.layers.proofs.Members.{only_one, in-own, own_below}
 use Rattle.layers.proofs.SheetLaw.{sheet-proper}
 use Rattle.packing.specs.Workings.Words.{block_start}
@@ -38,11 +38,11 @@ module _ (sh : Shape) (ws : List ℕ) where
 
   over-in : (k : ℕ) (qs : List ℤ) (p : ℕ) → p < length qs → in_layer sh k p ≡ true → at (spread_over sh k ws (block_start sh k) qs) p ≡ number_at sh ws k p
   unfolding spread_over
-  over-in k qs p h m = get_d_tabulate _ _ p (pos 0) h ∙ rw m
+  over-in k qs p h m = get_or-tabulate _ _ p (pos 0) h ∙ rw m
 
   over-out : (k : ℕ) (qs : List ℤ) (p : ℕ) → p < length qs → in_layer sh k p ≡ false → at (spread_over sh k ws (block_start sh k) qs) p ≡ at qs p
   unfolding spread_over
-  over-out k qs p h m = get_d_tabulate _ _ p (pos 0) h ∙ rw m
+  over-out k qs p h m = get_or-tabulate _ _ p (pos 0) h ∙ rw m
 
   over-long : (k : ℕ) (qs : List ℤ) → length (spread_over sh k ws (block_start sh k) qs) ≡ length qs
   unfolding spread_over
@@ -75,4 +75,4 @@ module _ (sh : Shape) (ws : List ℕ) where
         ext_get_or (pos 0) _ _ (g.long ∙ sym (length-tabulate _ _))
         (λ p h.
         let hp : p < points sh = omega (arith, g.long) in
-        g.done (own_layer sh p) p (omega (arith, own_below proper p hp)) hp (in-own proper p hp) ∙ sym (get_d_tabulate _ _ p (pos 0) hp))
+        g.done (own_layer sh p) p (omega (arith, own_below proper p hp)) hp (in-own proper p hp) ∙ sym (get_or-tabulate _ _ p (pos 0) hp))

@@ -12,7 +12,7 @@ use Rattle.sheet.specs.Limits.{layers_most}
 use Rattle.sheet.specs.Lists.{tabulate}
 use Rattle.sheet.specs.Sheet.{layers, layer_size}
 use Rattle.sheet.specs.Workings.Shapes.{size_at}
-use Rattle.sheet.proofs.Lists.{get_d_tabulate}
+use Rattle.sheet.proofs.Lists.{get_or-tabulate}
 use Rattle.header.specs.declared.Header.{Header}
 use Rattle.header.specs.Header.{places_most, cell_bytes, cell_points, planes_of, plane_cells}
 use Rattle.header.specs.Workings.{cells_most, cells_at, plane_cells_most, spans_of}
@@ -63,10 +63,10 @@ turn h r sizes spans es ec k p cells hk e =
     a-layer = omega (arith, layers-few r)
 
     size_is : get_or sizes k 0 ≡ layer_size sh k
-    size_is = ap (λ (ns : List ℕ). get_or ns k 0) es ∙ get_d_tabulate layers_most (size_at sh) k 0 a-layer ∙ size-there sh r.shape k hk
+    size_is = ap (λ (ns : List ℕ). get_or ns k 0) es ∙ get_or-tabulate layers_most (size_at sh) k 0 a-layer ∙ size-there sh r.shape k hk
 
     span-is : get_or spans k 0 ≡ plane_cells sh k
-    span-is = ap (λ (ns : List ℕ). get_or ns k 0) ec ∙ get_d_tabulate layers_most (cells_at sh) k 0 a-layer ∙ cells-there sh r.shape k hk
+    span-is = ap (λ (ns : List ℕ). get_or ns k 0) ec ∙ get_or-tabulate layers_most (cells_at sh) k 0 a-layer ∙ cells-there sh r.shape k hk
 
 module _ {h : Header} {k p cells n c : ℕ} (t : Turn h k p cells n c) where
   -- where its plane stands

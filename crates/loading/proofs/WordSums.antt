@@ -24,7 +24,7 @@ use Rattle.packing.specs.Workings.Words.{block_start, words_most}
 use Rattle.loading.specs.Workings.Words.{slot_fine, slot_words, words_with, Read, loaded_as, share, Partly}
 use Rattle.loading.specs.declared.Loaded.TheVariants.{Fine, Bad}
 use Rattle.loading.proofs.ZeroBits.{bit-most}
-use Rattle.sheet.proofs.Lists.{get_d-zeros}
+use Rattle.sheet.proofs.Lists.{get_or-zeros}
 use Rattle.loading.proofs.PlaneSums.{at_most, with-length, with_in, with-before, with-after}
 use Rattle.loading.proofs.SlotTests.{slot-none, slot-adds}
 use Rattle.packing.proofs.Blocks.{blocks-apart, block_room, in_block}
@@ -131,7 +131,7 @@ module _ (h : Header) (long : ℕ) (bs : List ℕ) (plan : ℕ → ℕ) where
       }
     where
       zeros : (j : ℕ) → get_or ws j 0 ≡ 0
-      zeros j = ap (λ (l : List ℕ). get_or l j 0) e ∙ get_d-zeros n j
+      zeros j = ap (λ (l : List ℕ). get_or l j 0) e ∙ get_or-zeros n j
 
   -- none is large
   pub partly-small : (t : ℕ) (ws : List ℕ) → Partly h long bs plan t ws → (j : ℕ) → get_or ws j 0 < 2 ^ places_most

@@ -14,7 +14,7 @@ use lib.Seq.{get_or-set_same, get_or-set_other}
 use Rattle.sheet.specs.Limits.{layers_most}
 use Rattle.sheet.specs.Lists.{total, count}
 use Rattle.integers.proofs.Bools.{by}
-use Rattle.sheet.proofs.Lists.{count_yes, count_no, count_most, count-never, get_d-zeros}
+use Rattle.sheet.proofs.Lists.{count_yes, count_no, count_most, count-never, get_or-zeros}
 use Rattle.header.specs.Header.{places_most}
 use Rattle.header.specs.Workings.{plane_cells_most}
 use Rattle.order.specs.CardOrder.{planes_before}
@@ -102,7 +102,7 @@ module _ {spans planes : List ℕ} {room : ℕ} where
         sum = sym (total-none _ layers_most (λ j l. rw (none j l) (mul-zero (get_or spans j 0))));
         rest = λ j l.
             let all : get_or planes j 0 - planes_before planes layers_most p j ≡ get_or planes j 0 = omega (arith, none j l) in
-            omega (arith, get_d-zeros layers_most j, ap (count (within spans planes room j)) all);
+            omega (arith, get_or-zeros layers_most j, ap (count (within spans planes room j)) all);
       }
     where
       none : (j : ℕ) → j < layers_most → planes_before planes layers_most p j ≡ 0

@@ -1,5 +1,4 @@
 // Where each plane of a card stands, in card order, and the planes that are whole in the bytes behind a header.
-
 #![tactic(auto)]
 
 ghost use Rattle.std.specs.Prelude.{◌≡◌, cond, ℕ, ◌<◌, ◌≤◌, leb, ltb, get_or};

@@ -13,7 +13,7 @@ use Rattle.digits.proofs.Expansion.{digit-at-small}
 use Rattle.sheet.specs.declared.Shape.{Shape}
 use Rattle.sheet.specs.Lists.{at}
 use Rattle.sheet.specs.Sheet.{layers, layer_size, point_of}
-use Rattle.sheet.proofs.Lists.{length-tabulate, get_d_tabulate}
+use Rattle.sheet.proofs.Lists.{length-tabulate, get_or-tabulate}
 use Rattle.header.specs.declared.Header.{Header}
 use Rattle.header.specs.Header.{places_most, cell_bytes, cell_points, planes_of, plane_cells, cells_of}
 use Rattle.order.specs.CardOrder.{at_place, down_from, in_order, cells_before}
@@ -36,7 +36,7 @@ module _ (sh : Shape) (qs : List ℤ) (k p : ℕ) where
 
   pub plane-byte : (b : ℕ) → b < cell_bytes * plane_cells sh k → get_or (plane_bytes sh qs k p) b 0 ≡ packed 8 (λ j. plane_bit sh qs k p (8 * b + j))
   unfolding plane_bytes
-  plane-byte b h = get_d_tabulate (cell_bytes * plane_cells sh k) (λ b. packed 8 (λ j. plane_bit sh qs k p (8 * b + j))) b 0 h
+  plane-byte b h = get_or-tabulate (cell_bytes * plane_cells sh k) (λ b. packed 8 (λ j. plane_bit sh qs k p (8 * b + j))) b 0 h
 
   -- THE BITS COME BACK
   pub plane-bit : (i : ℕ) → i < cell_points * plane_cells sh k → get_or (plane_bytes sh qs k p) (i / 8) 0 / 2 ^ (i % 8) % 2 ≡ plane_bit sh qs k p i

@@ -21,7 +21,7 @@ use Rattle.sheet.specs.Sheet.{accepted, layers, layer_size}
 use Rattle.layers.specs.Samples.{full}
 use Rattle.layers.specs.Workings.Calls.{settled}
 use Rattle.layers.proofs.Answers.{settled-yes}
-use Rattle.sheet.proofs.Lists.{get_d_tabulate}
+use Rattle.sheet.proofs.Lists.{get_or-tabulate}
 use Rattle.sheet.proofs.Places.{place-in}
 use Rattle.header.specs.declared.Header.{Header}
 use Rattle.header.specs.Header.{places_most, cell_bytes, planes_of, cells_of, header_text}
@@ -63,7 +63,7 @@ module _ (sh : Shape) (qs : List ℤ) (k : ℕ) where
 -- as the header has them
 pub counts-at : (sh : Shape) (qs : List ℤ) (k : ℕ) → k < layers_most → get_or (counts_for sh qs) k 0 ≡ planes_for sh qs k
 unfolding counts_for
-counts-at sh qs k h = get_d_tabulate layers_most (planes_for sh qs) k 0 h
+counts-at sh qs k h = get_or-tabulate layers_most (planes_for sh qs) k 0 h
 
 counts-most : (sh : Shape) (qs : List ℤ) (k : ℕ) → k < layers_most → get_or (counts_for sh qs) k 0 ≤ planes_most sh k
 counts-most sh qs k h = rw (counts-at sh qs k h) (planes-most sh qs k)

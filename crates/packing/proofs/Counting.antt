@@ -20,7 +20,7 @@ use Rattle.sheet.specs.declared.Shape.{Shape}
 use Rattle.sheet.specs.Limits.{layers_most}
 use Rattle.sheet.specs.Lists.{tabulate}
 use Rattle.sheet.specs.Sheet.{layers, layer_size}
-use Rattle.sheet.proofs.Lists.{length-tabulate, get_d_tabulate, get_d-zeros}
+use Rattle.sheet.proofs.Lists.{length-tabulate, get_or-tabulate, get_or-zeros}
 use Rattle.header.specs.Header.{places_most}
 use Rattle.packing.specs.Planes.{all_below}
 use Rattle.packing.specs.Workings.Words.{offset, number_of, count_of, count_at, block_start}
@@ -126,7 +126,7 @@ pub record CountedTo (sh : Shape) (ws : List ℕ) (k : ℕ) (ps : List ℕ) : Ty
 
 module _ (sh : Shape) (ws : List ℕ) where
   pub counted_none : CountedTo sh ws 0 (replicate layers_most 0)
-  counted_none = record { long = refl; done = λ j h. absurd (let z : ⊥ = omega arith in z); left = λ j _. get_d-zeros layers_most j }
+  counted_none = record { long = refl; done = λ j h. absurd (let z : ⊥ = omega arith in z); left = λ j _. get_or-zeros layers_most j }
 
   pub counted-more : (k v : ℕ) (ps : List ℕ) → k < layers sh → k < layers_most → v ≡ count_of ws (block_start sh k) (layer_size sh k) → CountedTo sh ws k ps → CountedTo sh ws (k + 1) (set ps k v)
   unfolding count_at
@@ -152,4 +152,4 @@ module _ (sh : Shape) (ws : List ℕ) where
       elim (dec_lt j k) [
         | yes l ↦ g.done j l
         | no l ↦ g.left j (omega arith) ∙ sym (past j (omega arith))
-      ] ∙ sym (get_d_tabulate layers_most (count_at sh ws) j 0 (omega (arith, g.long))))
+      ] ∙ sym (get_or-tabulate layers_most (count_at sh ws) j 0 (omega (arith, g.long))))

@@ -19,7 +19,7 @@ use Rattle.digits.proofs.Offset.{flip_at, digit-offset}
 use Rattle.sheet.specs.declared.Shape.{Shape}
 use Rattle.sheet.specs.Lists.{at}
 use Rattle.sheet.specs.Sheet.{accepted, points, layers, layer_size, point_of}
-use Rattle.sheet.proofs.Lists.{length-tabulate, get_d_tabulate, tabulate-same}
+use Rattle.sheet.proofs.Lists.{length-tabulate, get_or-tabulate, tabulate-same}
 use Rattle.sheet.proofs.Places.{point-on}
 use Rattle.header.specs.declared.Header.{Header}
 use Rattle.header.specs.Header.{places_most, cell_bytes, cell_points, planes_of, plane_cells, cells_of}
@@ -56,7 +56,7 @@ module _ (rows : List ℕ) (start c p : ℕ) where
 
   pub flat-byte : (b : ℕ) → b < cell_bytes * c → byte_at p (get_or rows (start + 8 * b + p % 8) 0) ≡ get_or (flat_plane rows start c p) b 0
   unfolding flat_plane
-  flat-byte b h = sym (get_d_tabulate (cell_bytes * c) (λ b. byte_at p (get_or rows (start + 8 * b + p % 8) 0)) b 0 h)
+  flat-byte b h = sym (get_or-tabulate (cell_bytes * c) (λ b. byte_at p (get_or rows (start + 8 * b + p % 8) 0)) b 0 h)
 
 -- ---- the planes in order
 module _ (h : Header) (rows : List ℕ) where

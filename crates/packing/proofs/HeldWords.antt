@@ -19,7 +19,7 @@ use Rattle.sheet.specs.Limits.{layers_most}
 use Rattle.sheet.specs.Lists.{at, tabulate}
 use Rattle.sheet.specs.Sheet.{accepted, points, layers, layer_size, point_of, place_in}
 use Rattle.sheet.proofs.Accepting.{accepted-yes, layers-few}
-use Rattle.sheet.proofs.Lists.{get_d_tabulate}
+use Rattle.sheet.proofs.Lists.{get_or-tabulate}
 use Rattle.layers.proofs.Members.{in-own, own_below}
 use Rattle.sheet.proofs.Places.{place-in, point-place}
 use Rattle.layers.proofs.SheetLaw.{sheet-proper}
@@ -90,7 +90,7 @@ module _ (sh : Shape) (ok : accepted sh ≡ true) (qs : List ℤ) (full : length
     over = first_over limit (λ k. get_or planes k 0)
 
     count_at_lem : (k : ℕ) → k < layers_most → get_or planes k 0 ≡ count_at sh ws k
-    count_at_lem k l = ap (λ (x : List ℕ). get_or x k 0) counted ∙ get_d_tabulate layers_most (count_at sh ws) k 0 l
+    count_at_lem k l = ap (λ (x : List ℕ). get_or x k 0) counted ∙ get_or-tabulate layers_most (count_at sh ws) k 0 l
 
     pub held-each : over ≡ layers_most → (p : ℕ) → holds places_most (at qs p) ≡ true
     held-each e = all_held_lem (λ k l. omega (arith, count_at_lem k l, over_none limit (λ k. get_or planes k 0) e k l, get_or-replicate layers_most k places_most 0 l))

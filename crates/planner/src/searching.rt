@@ -129,7 +129,7 @@ fn plan_in(t: &[u64], header: Header, losses: &[u32], size: usize) -> Planned
     requires rows { T.Rows (T.layers_of header losses.now) t.now layers_most }
     requires size_bound { T.best (T.layers_of header losses.now) layers_most size < T.none }
     ensures traced { T.Traced (T.layers_of header losses.now) layers_most size (N.counts result.plan.planes) }
-    ensures refusal_value { (R.details_of result.refusal ≡ R.refusal 0 0 0) × (result.cells ≡ size) × (result.figure ≡ header.step + T.best (T.layers_of header losses.now) layers_most size) }
+    ensures answers { (R.details_of result.refusal ≡ R.refusal 0 0 0) × (result.cells ≡ size) × (result.figure ≡ header.step + T.best (T.layers_of header losses.now) layers_most size) }
 {
     let planes = trace(t, header, losses, size);
     let figure = header.step + t[MOST_LAYERS * ROW + size];

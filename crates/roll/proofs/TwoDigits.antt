@@ -7,7 +7,7 @@ use native.Mathlib.Omega.{arith}
 use borrow.Author.Tests.{eq-eqb, ne_eqb}
 use lib.ListN.{length, set, get_or, length-append}
 use lib.Seq.{sets, length-sets}
-use Rattle.sheet.proofs.Lists.{get_d_tabulate}
+use Rattle.sheet.proofs.Lists.{get_or-tabulate}
 use Rattle.text.specs.Decimal.{zero_character, decimal}
 use Rattle.text.proofs.Digits.{one, two}
 use Rattle.text.proofs.Stores.{sets-sets, set-sets}
@@ -17,13 +17,13 @@ use Rattle.roll.specs.Workings.{pair_characters, pair_character, pair, pair_tabl
 tens-at : (n : ℕ) → n < 100 → get_or pair_table (2 * n) 0 ≡ zero_character + n / 10
 unfolding pair_table pair_character
 tens-at n h =
-    get_d_tabulate pair_characters pair_character (2 * n) 0 (omega arith)
+    get_or-tabulate pair_characters pair_character (2 * n) 0 (omega arith)
     ∙ rw (eq-eqb (2 * n % 2) 0 (omega arith)) (omega arith)
 
 ones-at : (n : ℕ) → n < 100 → get_or pair_table (2 * n + 1) 0 ≡ zero_character + n % 10
 unfolding pair_table pair_character
 ones-at n h =
-    get_d_tabulate pair_characters pair_character (2 * n + 1) 0 (omega arith)
+    get_or-tabulate pair_characters pair_character (2 * n + 1) 0 (omega arith)
     ∙ rw (ne_eqb ((2 * n + 1) % 2) 0 (λ e. omega arith)) (omega arith)
 
 -- ---- the last two characters of a number

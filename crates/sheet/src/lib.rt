@@ -1,6 +1,5 @@
 // A sheet and its layers: the shapes that are accepted, and the points of each layer as a grid and as lines.
 // Sheets stand in a stack too, once stacks come.
-
 #![tactic(auto)]
 
 mod grids;

@@ -1,5 +1,4 @@
 // Decimal numbers, lists of them and lines of text, read strictly and written in one way. Nothing here can wrap, whatever the text.
-
 #![tactic(auto)]
 
 ghost use Rattle.std.specs.Prelude.{◌≡◌, ◌+◌, drop};

@@ -1,20 +1,19 @@
 // The program trace: a word for each thing that people do with a card.
 #![tactic(auto)]
 
-ghost use Rattle.std.specs.Prelude.{◌≡◌, pos, IfSome};
+ghost use Rattle.std.specs.Prelude.{◌≡◌, pos};
 ghost use Rattle.std.specs.Process.{exit_status};
 ghost use Rattle.io.specs.Counts.{IsPrefixLen};
 ghost use Rattle.trace.specs.Words as W;
 ghost use Rattle.trace.specs.Workings.{IsStatus};
 
-use display::{BUFFER, Input};
-use std::env::{Env, FillError};
+use display::{BUFFER, Input, STDERR, STDIN};
+use std::env::Env;
 use std::fs::File;
 use std::io::Read;
 use std::os::fd::AsRawFd;
 use std::process::ExitCode;
 use std::rt::Files;
-use std::{fs, str};
 
 // What to do: with the card on standard input, or with the two that are named.
 #[derive(Clone, Copy)]
@@ -37,11 +36,6 @@ const WORD: usize = 1;
 const FIRST_NAME: usize = 2;
 
 const SECOND_NAME: usize = 3;
-
-// The descriptors that a program starts with.
-const STDIN: i32 = 0;
-
-const STDERR: i32 = 2;
 
 fn is(text: &[u8], word: &[u8]) -> bool
     ensures { result ≡ W.is text.now word.now }
@@ -138,35 +132,23 @@ fn roll() -> i32
     status_of(display::roll(&buffer[..n], input.ends))
 }
 
-// How many bytes argument i has, which then stand at the front of `text`; none where there is no such argument. One that is too long counts as empty.
-fn argument(rt: &impl Env, i: usize, text: &mut [u8]) -> Option<usize>
-    ensures { IfSome result (λ n. IsPrefixLen n text.new) }
-{
-    match rt.arg(i, text) {
-        Ok(length) => Some(length),
-        Err(FillError::TooLong) => Some(0),
-        Err(FillError::NotPresent) => None,
-    }
-}
-
 // How many arguments there are behind the word. The turns are more than any arguments use up.
 fn names_behind(rt: &impl Env) -> usize {
     let mut name = io::buffer();
     for i in FIRST_NAME..usize::MAX {
-        if argument(rt, i, &mut name).is_none() {
+        if display::argument(rt, i, &mut name).is_none() {
             return i - FIRST_NAME;
         }
     }
     usize::MAX - FIRST_NAME
 }
 
-// Opens the file that argument i names, for reading; none where it cannot be read, as where the name is not UTF-8. Reading no bytes tells: a folder can be
+// Opens the file that argument i names, for reading; none where it cannot be read. Reading no bytes tells: a folder can be
 // opened and not read.
 fn open<R: Env + Files>(rt: &R, i: usize) -> Option<R::File> {
     let mut name = io::buffer();
-    let length = argument(rt, i, &mut name)?;
-    let path = str::from_utf8(&name[..length]).ok()?;
-    let mut file = fs::open(rt, path).ok()?;
+    let length = display::argument(rt, i, &mut name)?;
+    let mut file = display::open(rt, &name[..length])?;
     file.read(&mut name[..0]).ok()?;
     Some(file)
 }
@@ -176,7 +158,7 @@ fn not_read(rt: &impl Env, i: usize) -> i32
     ensures { result ≡ W.no_file }
 {
     let mut name = io::buffer();
-    let length = argument(rt, i, &mut name).unwrap_or(0);
+    let length = display::argument(rt, i, &mut name).unwrap_or(0);
     io::write_all(STDERR, &name[..length]);
     io::write_all(STDERR, b": cannot be read\n");
     NO_FILE
@@ -225,7 +207,7 @@ pub fn trace_run(rt: &(impl Env + Files<File = File>)) -> i32
     ensures { IsStatus result }
 {
     let mut text = io::buffer();
-    let Some(length) = argument(rt, WORD, &mut text) else {
+    let Some(length) = display::argument(rt, WORD, &mut text) else {
         return words();
     };
     run(rt, asked(&text[..length], names_behind(rt)))

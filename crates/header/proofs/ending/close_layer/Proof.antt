@@ -9,7 +9,7 @@ use lib.Seq.{sets, length-sets}
 use Rattle.digits.specs.Digits.{loss}
 use Rattle.digits.proofs.Losses.{loss-counted}
 use Rattle.sheet.specs.Lists.{tabulate}
-use Rattle.sheet.proofs.Lists.{length-tabulate, get_d_tabulate}
+use Rattle.sheet.proofs.Lists.{length-tabulate, get_or-tabulate}
 use Rattle.text.proofs.Stores.{sets-next, sets-whole}
 use Rattle.header.proofs.ending.close_layer.Statement.{statement}
 use Rattle.header.proofs.ending.close_layer.Tie as tie
@@ -74,7 +74,7 @@ loop-again c =
     let s = S l in
     let j = l.loop-j.j in
     let few : j + 1 ≤ 33 = omega (arith, i.loop-j-test.true, s.requires.0) in
-    let e = c.loss.ensures ∙ loss-counted (j + 1) few ∙ ap loss (add-one j) ∙ sym (get_d_tabulate s.args.planes F j 0 i.loop-j-test.true) in (
+    let e = c.loss.ensures ∙ loss-counted (j + 1) few ∙ ap loss (add-one j) ∙ sym (get_or-tabulate s.args.planes F j 0 i.loop-j-test.true) in (
       omega (arith, i.loop-j-test.true),
       (λ t. set (l.loop-j.invariant.1 t) (s.args.at + j) (e t)) ∙ sets-next s.args.table.now s.args.at (All l) j 0 (omega (arith, i.loop-j-test.true, length-tabulate s.args.planes F)),
     )
