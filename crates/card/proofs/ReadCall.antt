@@ -24,7 +24,8 @@ use Rattle.header.specs.declared.Details.{Details}
 use Rattle.header.specs.declared.Opened.{Opened}
 use Rattle.header.specs.declared.Plan.{Plan}
 use Rattle.header.specs.declared.Refusal.{Refusal}
-use Rattle.header.specs.declared.Refusal.TheVariants as F
+use Rattle.std.specs.Prelude.{Option, Some, None}
+use Rattle.header.specs.Workings.{place_in}
 use Rattle.header.specs.Refusals.{refusal, details_of}
 use Rattle.header.specs.Header.{planes_of, header_text}
 use Rattle.header.specs.Plan.{loads, missing, first_over}
@@ -39,11 +40,11 @@ use Rattle.figure.proofs.FigureCall.{bound-right}
 use Rattle.header.proofs.Over.{over-le}
 use Rattle.header.proofs.WellFormed.{right-yes, layers-few, few-planes}
 use Rattle.header.proofs.Opens.{Opens, opened-right}
-use Rattle.header.proofs.Refusing.{opened-accepts}
+use Rattle.header.proofs.Refusing.{opened-accepts, refusing}
 use Rattle.loading.specs.InBytes.{first_bad, coefs_read}
-use Rattle.loading.specs.Workings.Calls.{Loading, as_loading, loadable, loading, all_whole, whole_loaded}
+use Rattle.loading.specs.Workings.Calls.{Loading, done, loadable, loading, all_whole, whole_loaded}
 use Rattle.loading.proofs.Loads.{coefs-long, loadable-by, whole_is, plan-within}
-use Rattle.card.specs.Reading.{Reading, values_with, not_read, unless, good_lengths, first_refusal, read_opened, after_opening}
+use Rattle.card.specs.Reading.{Reading, values_with, not_read, unless, good_lengths, first_refusal, read_opened, after_opening, showing}
 use Rattle.card.specs.Workings.{middles_of, finished}
 
 -- ---- what a reading that is not refused answers
@@ -95,11 +96,23 @@ module _ (qs vs : List ℤ) (h : Header) where
     unfolding full
     lengths_differ d = rw (e, ne_eqb (length qs) (points h.shape) (λ q. d (q ∙ sym e)))
 
+-- ---- what a call does with a refusal: it goes on where there is none, and else answers it
+module _ (qs vs : List ℤ) (d : Details) (go : Reading) where
+  pub goes_on : refusal 0 0 0 ≡ d → go ≡ unless qs vs d go
+  goes_on e = rw (← e)
+
+  pub stops : (r : Refusal) → details_of r ≡ d → not_read qs vs (details_of r) ≡ unless qs vs d go
+  stops r e = rw (← e, ne_eqb (details_of r).number 0 (refusing r))
+
 -- ---- what follows the planes
-pub finished-yes : (r : Refusal) → r ≡ F.Accepted → (h : Header) (ls : List ℕ) (plan : Plan) (qs vs v : List ℤ) (n : ℕ) → v ≡ rebuilding h.shape h.curve h.step (middles_of h plan) qs vs → n ≡ (bound_of h ls plan).figure
-    → record { refused = details_of r; plan = plan; figure = n; coefficients = qs; values = v } ≡ finished (details_of r) h ls plan qs vs
+pub finished-yes : (h : Header) (ls : List ℕ) (plan : Plan) (qs vs v : List ℤ) (n : ℕ) → v ≡ rebuilding h.shape h.curve h.step (middles_of h plan) qs vs → n ≡ (bound_of h ls plan).figure
+    → record { refused = refusal 0 0 0; plan = plan; figure = n; coefficients = qs; values = v } ≡ finished (refusal 0 0 0) h ls plan qs vs
 unfolding finished
-finished-yes r y h ls plan qs vs v n a b = rw y (λ i. record { refused = refusal 0 0 0; plan = plan; figure = b i; coefficients = qs; values = a i })
+finished-yes h ls plan qs vs v n a b = (λ i. record { refused = refusal 0 0 0; plan = plan; figure = b i; coefficients = qs; values = a i })
+
+pub finished-no : (w : Refusal) (h : Header) (ls : List ℕ) (plan : Plan) (qs vs : List ℤ) → not_read qs vs (details_of w) ≡ finished (details_of w) h ls plan qs vs
+unfolding finished
+finished-no w h ls plan qs vs = stops qs vs (details_of w) _ w refl
 
 module _ (h : Header) (r : well_formed h ≡ true) (ls : List ℕ) (plan : Plan) (e : first_over (planes_of h) (loads plan) ≡ layers_most)
     (qs vs : List ℤ) (q : length qs ≡ points h.shape) (v : length vs ≡ points h.shape) where
@@ -146,26 +159,19 @@ module _ (h : Header) (r : well_formed h ≡ true) (ls : List ℕ) (long : ℕ) 
           (λ u. rw (good, can-load, t, u))
           (λ u. rw (good, can-load, t, u)))
 
-      pub loaded-read : (refusal : Refusal) (q : List ℤ) → as_loading refusal q ≡ loading qs bs h long plan → finished (details_of refusal) h ls plan q vs ≡ read_opened qs vs bs h ls long plan
-      loaded-read refusal q x = ap (λ (l : Loading). finished l.refused h ls plan l.coefficients vs) x ∙ finished-read
+      pub loaded-read : (l : Loading) → l ≡ loading qs bs h long plan → finished l.refused h ls plan l.coefficients vs ≡ read_opened qs vs bs h ls long plan
+      loaded-read l x = ap (λ (l : Loading). finished l.refused h ls plan l.coefficients vs) x ∙ finished-read
 
-    -- with all whole planes: beside a refusal the plan does not matter
+    -- with all whole planes
     plan-read : eqb (all_whole qs bs h long).refused.number 0 ≡ true → whole_loaded qs bs h long ≡ whole_of bs h long
     unfolding whole_loaded
     plan-read z = rw z
 
-    refused-same : (d : Details) (p p' : Plan) (q : List ℤ) → eqb d.number 0 ≡ false → finished d h ls p q vs ≡ finished d h ls p' q vs
-    unfolding finished
-    refused-same d p p' q z = rw z
-
-    pub whole-read : (refusal : Refusal) (q : List ℤ) (plan : Plan) → as_loading refusal q ≡ all_whole qs bs h long → plan ≡ whole_loaded qs bs h long
-        → finished (details_of refusal) h ls plan q vs ≡ read_opened qs vs bs h ls long (whole_of bs h long)
-    whole-read refusal q plan x y =
-        let d = details_of refusal in
-        let number_is : eqb d.number 0 ≡ true → eqb (all_whole qs bs h long).refused.number 0 ≡ true = λ z. ap (λ (l : Loading). eqb l.refused.number 0) (sym x) ∙ z in
-        by (eqb d.number 0)
-        (λ z. ap (λ (p : Plan). finished d h ls p q vs) (y ∙ plan-read (number_is z)) ∙ loaded-read (whole_of bs h long) refusal q x)
-        (λ z. refused-same d plan (whole_of bs h long) q z ∙ loaded-read (whole_of bs h long) refusal q x)
+    pub whole-read : (plan : Plan) (q : List ℤ) → done q ≡ all_whole qs bs h long → plan ≡ whole_loaded qs bs h long
+        → finished (refusal 0 0 0) h ls plan q vs ≡ read_opened qs vs bs h ls long (whole_of bs h long)
+    whole-read plan q x y =
+        let accepted : eqb (all_whole qs bs h long).refused.number 0 ≡ true = rw (ap (λ (l : Loading). l.refused.number) (sym x)) in
+        ap (λ (p : Plan). finished (refusal 0 0 0) h ls p q vs) (y ∙ plan-read accepted) ∙ loaded-read (whole_of bs h long) (done q) x
 
 -- ---- what is checked: the lengths, then the plan
 module _ (qs vs : List ℤ) (h : Header) (whole plan : Plan) where
@@ -185,6 +191,15 @@ module _ (qs vs : List ℤ) (h : Header) (whole plan : Plan) where
     unfolding first_refusal
     checked-none e = rw (good, le-ltb over layers_most (omega arith))
 
+    -- as the code is told the first such place
+    abbrev place_refusal : Option ℕ → Details
+    place_refusal (Some place) = refusal 9 place 0
+    place_refusal None = refusal 0 0 0
+
+    pub checked-at : (o : Option ℕ) → o ≡ place_in layers_most over → place_refusal o ≡ first_refusal qs vs h whole plan
+    unfolding first_refusal
+    checked-at o e = rw (good, e) (by (ltb over layers_most) (λ y. rw y) (λ n. rw n))
+
   pub checked-passes : (first_refusal qs vs h whole plan).number ≡ 0 → (good_lengths qs vs h ≡ true) × (over ≡ layers_most)
   unfolding first_refusal
   checked-passes e =
@@ -196,31 +211,26 @@ module _ (qs vs : List ℤ) (h : Header) (whole plan : Plan) where
 
 -- as the code asks it, of the planes that are whole in the bytes
 module _ (qs vs : List ℤ) (bs : List ℕ) (h : Header) (long : ℕ) (plan : Plan) (right-header : well_formed h ≡ true)
-    (w : Plan) (ew : w ≡ whole_in h (length bs - long)) (r : Refusal) (er : details_of r ≡ first_refusal qs vs h w plan) where
+    (w : Plan) (ew : w ≡ whole_in h (length bs - long)) (d : Details) (er : d ≡ first_refusal qs vs h w plan) where
   pub whole_here : w ≡ whole_of bs h long
   whole_here = ew ∙ whole_is h right-header (length bs - long)
 
-  pub checked-is : details_of r ≡ first_refusal qs vs h (whole_of bs h long) plan
+  pub checked-is : d ≡ first_refusal qs vs h (whole_of bs h long) plan
   checked-is = er ∙ ap (λ (x : Plan). first_refusal qs vs h x plan) whole_here
 
-  pub checked-yes : r ≡ F.Accepted → (good_lengths qs vs h ≡ true) × (first_over (loads (whole_of bs h long)) (loads plan) ≡ layers_most)
-  checked-yes y = checked-passes qs vs h (whole_of bs h long) plan (ap (λ (d : Details). d.number) (sym checked-is ∙ ap details_of y))
-
--- ---- what a call does with a refusal: it goes on where there is none, and else answers it
-module _ (qs vs : List ℤ) (r : Refusal) (d : Details) (e : details_of r ≡ d) (go : Reading) where
-  pub goes_on : r ≡ F.Accepted → go ≡ unless qs vs d go
-  goes_on y = rw (← e, y)
-
-  pub stops : ((details_of r).number ≡ 0 → ⊥) → not_read qs vs (details_of r) ≡ unless qs vs d go
-  stops n = rw (← e, ne_eqb (details_of r).number 0 n)
+  pub checked-yes : d.number ≡ 0 → (good_lengths qs vs h ≡ true) × (first_over (loads (whole_of bs h long)) (loads plan) ≡ layers_most)
+  checked-yes y = checked-passes qs vs h (whole_of bs h long) plan (ap (λ (x : Details). x.number) (sym checked-is) ∙ y)
 
 -- ---- what opening answers
-module _ (bs : List ℕ) (o : Opened) (e : O.as_opening o (opening bs).losses ≡ opening bs) (yes : o.refusal ≡ F.Accepted) where
+pub opened-no : (bs : List ℕ) (w : Refusal) → O.not_opened (details_of w) ≡ opening bs → (qs vs : List ℤ) (go : Header → List ℕ → ℕ → Reading) → not_read qs vs (details_of w) ≡ after_opening qs vs (opening bs) go
+opened-no bs w e qs vs go = stops qs vs (opening bs).refused _ w (ap (λ (x : Opening). x.refused) e)
+
+module _ (bs : List ℕ) (o : Opened) (e : O.opened o.header (opening bs).losses o.length ≡ opening bs) where
   pub opened-yes : (qs vs : List ℤ) (go : Header → List ℕ → ℕ → Reading) (ls : List ℕ) → ls ≡ told (opening bs).losses → go o.header ls o.length ≡ after_opening qs vs (opening bs) go
-  opened-yes qs vs go ls is = ap (λ (ms : List ℕ). go o.header ms o.length) is ∙ rw (← e, yes)
+  opened-yes qs vs go ls is = ap (λ (ms : List ℕ). go o.header ms o.length) is ∙ rw (← e)
 
   opens : Opens bs (opening bs).header (opening bs).losses (opening bs).long
-  opens = opened-right bs (opened-accepts bs o _ e yes)
+  opens = opened-right bs (opened-accepts bs o _ e)
 
   pub header-here : o.length ≤ length bs
   header-here =
@@ -228,3 +238,8 @@ module _ (bs : List ℕ) (o : Opened) (e : O.as_opening o (opening bs).losses �
       let t = header_text (opening bs).header (opening bs).losses in
       let b : length bs ≡ length (t ++ drop (opening bs).long bs) = ap length opens.text-is in
       omega (arith, opens.length-is, length-append t (drop (opening bs).long bs))
+
+-- a card that does not open is not shown
+pub showing-no : (bs : List ℕ) (w : Refusal) → O.not_opened (details_of w) ≡ opening bs → (qs vs : List ℤ) → not_read qs vs (details_of w) ≡ showing qs vs bs
+unfolding showing
+showing-no bs w e qs vs = opened-no bs w e qs vs (λ h ls long. read_opened qs vs bs h ls long (whole_of bs h long))

@@ -15,8 +15,7 @@ use Rattle.sheet.specs.Limits.{layers_most}
 use Rattle.sheet.specs.Sheet.{layers}
 use Rattle.header.specs.declared.Header.{Header}
 use Rattle.header.specs.declared.Plan.{Plan}
-use Rattle.header.specs.declared.Refusal.{Refusal}
-use Rattle.header.specs.Refusals.{refusal, details_of}
+use Rattle.header.specs.Refusals.{refusal}
 use Rattle.header.specs.Header.{planes_of}
 use Rattle.header.specs.Plan.{loads, first_over, with_plane}
 use Rattle.header.specs.Opening.{well_formed}
@@ -27,7 +26,7 @@ use Rattle.header.proofs.WellFormed.{right-yes, layers-few, few-planes}
 use Rattle.order.proofs.Whole.{whole-most, counted-whole}
 use Rattle.packing.specs.Planes.{all_held}
 use Rattle.loading.specs.InBytes.{fine, coefs_with}
-use Rattle.loading.specs.Workings.Calls.{Loading, as_loading, there, adding}
+use Rattle.loading.specs.Workings.Calls.{Loading, there, adding}
 use Rattle.loading.proofs.LayerPlanes.{whole-at}
 use Rattle.loading.proofs.Loads.{plus-long}
 use Rattle.card.specs.Reading.{Reading, values_with, good_lengths}
@@ -133,9 +132,9 @@ module _ (h : Header) (r : well_formed h ≡ true) (ls : List ℕ) (long : ℕ) 
         (λ u. rw (can, next-there, low, further, t, u) (unfold finished in refl)))
         (λ t. rw (can, next-there, low, further, t) (unfold finished in refl))
 
-    pub added-refine : (refusal : Refusal) (q : List ℤ) (p : ℕ) (pl : Plan) → p ≡ at_next → as_loading refusal q ≡ adding qs bs h long k p → pl ≡ with_plane plan k
-        → finished (details_of refusal) h ls pl q vs ≡ refine_layer qs vs bs h ls long plan k
-    added-refine refusal q p pl e x y =
+    pub added-refine : (l : Loading) (p : ℕ) (pl : Plan) → p ≡ at_next → l ≡ adding qs bs h long k p → pl ≡ with_plane plan k
+        → finished l.refused h ls pl l.coefficients vs ≡ refine_layer qs vs bs h ls long plan k
+    added-refine l p pl e x y =
         ap₂ (λ (l : Loading) (p : Plan). finished l.refused h ls p l.coefficients vs) (x ∙ ap (adding qs bs h long k) e) y
         ∙ finished-added
 

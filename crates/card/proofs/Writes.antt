@@ -18,10 +18,10 @@ use Rattle.digits.specs.Digits.{holds}
 use Rattle.digits.proofs.Range.{holds_by, range-23}
 use Rattle.sheet.specs.declared.Shape.{Shape}
 use Rattle.sheet.specs.declared.Curve.{Curve}
-use Rattle.layers.specs.declared.Scan.{Scan}
-use Rattle.layers.specs.declared.Scan.TheVariants.{Clear, OutAt}
-use Rattle.layers.specs.declared.Quantized.{Quantized}
-use Rattle.layers.specs.declared.Quantized.TheVariants.{Done, Refused, OutOfRange}
+use Rattle.std.specs.Prelude.{Option, None, Some, Result, Ok, Err}
+use Rattle.layers.specs.declared.Place.{Place}
+use Rattle.layers.specs.declared.QuantizeError.{QuantizeError}
+use Rattle.layers.specs.declared.QuantizeError.TheVariants.{BadLengths, OutOfRange}
 use Rattle.sheet.specs.Limits.{levels_most, step_most}
 use Rattle.sheet.specs.Lists.{at}
 use Rattle.sheet.specs.Sheet.{sized, accepted, points}
@@ -33,12 +33,10 @@ use Rattle.layers.specs.Samples.{full}
 use Rattle.layers.proofs.Answers.{samples-by, full-yes, full-no, right, after-scan}
 use Rattle.layers.proofs.Law.{length-coefs}
 use Rattle.layers.proofs.Range.{coefs-reach}
-use Rattle.header.specs.declared.Refusal.{Refusal}
 use Rattle.header.specs.declared.Refusal.TheVariants as R
 use Rattle.header.specs.declared.Details.{Details}
-use Rattle.header.specs.Refusals.{refusal, details_of}
+use Rattle.header.specs.Refusals.{refusal}
 use Rattle.header.specs.Header.{places_most}
-use Rattle.card.specs.declared.Written.{Written}
 use Rattle.header.proofs.TextLength.{card-fits}
 use Rattle.packing.specs.Planes.{header_for, losses_for, card_of, all_held}
 use Rattle.packing.specs.Workings.Calls.{card_for}
@@ -48,7 +46,6 @@ use Rattle.packing.proofs.Cards.{header-right, card-length, measured-fit}
 use Rattle.packing.proofs.FlatPlanes.{zero-holds}
 use Rattle.header.proofs.WellFormed.{few-planes}
 use Rattle.card.specs.Writing.{output_least, bad_sizes, Writing, after_scan, bad_settings, room_to_write, writing, as_writing}
-use Rattle.card.specs.Writing as Wr
 use Rattle.card.proofs.BadSizes.{bad-sizes}
 
 abbrev made : Details → ℕ → List ℤ → List ℤ → List ℕ → Writing
@@ -79,18 +76,14 @@ coefs-hold s curve p h =
     holds_by places_most _ (record { low = omega (arith, reach.0, range-23); high = omega (arith, reach.1, range-23) })
 
 module _ (xs : List ℤ) (sh : Shape) (curve : Curve) (e : ℕ) (qs vs : List ℤ) (out : List ℕ) where
-  -- a refusal told
-  told-no : (w : Written) (r : Refusal) → w.refusal ≡ r → w.length ≡ 0 → as_writing w qs vs out ≡ Wr.not_written xs sh curve e qs vs out (details_of r)
-  told-no w r a b = made-same (details_of w.refusal) (details_of r) w.length 0 qs qs vs vs out out (ap details_of a) b refl refl refl
-
-  pub bad-size : bad_sizes sh.rows sh.cols ≡ true → (w : Written) → w.refusal ≡ R.BadSize → w.length ≡ 0 → as_writing w qs vs out ≡ writing xs sh curve e qs vs out
+  pub bad-size : bad_sizes sh.rows sh.cols ≡ true → as_writing (Err R.BadSize) qs vs out ≡ writing xs sh curve e qs vs out
   unfolding writing
-  bad-size y w a b = rw y (told-no w R.BadSize a b)
+  bad-size y = rw y
 
   module _ (n : bad_sizes sh.rows sh.cols ≡ false) where
-    pub bad-settings : bad_settings xs sh curve e qs vs out ≡ true → (w : Written) → w.refusal ≡ R.BadSettings → w.length ≡ 0 → as_writing w qs vs out ≡ writing xs sh curve e qs vs out
+    pub bad-settings : bad_settings xs sh curve e qs vs out ≡ true → as_writing (Err R.BadSettings) qs vs out ≡ writing xs sh curve e qs vs out
     unfolding writing
-    bad-settings y w a b = rw (n, y) (told-no w R.BadSettings a b)
+    bad-settings y = rw (n, y)
 
     pub many-levels : levels_most < sh.levels → bad_settings xs sh curve e qs vs out ≡ true
     many-levels h = or_left (ltb levels_most sh.levels) (ltb step_most e) (lt-ltb levels_most sh.levels h)
@@ -102,9 +95,9 @@ module _ (xs : List ℤ) (sh : Shape) (curve : Curve) (e : ℕ) (qs vs : List �
       pub good-settings : bad_settings xs sh curve e qs vs out ≡ false
       good-settings = rw (le-ltb levels_most sh.levels l, le-ltb step_most e s)
 
-      pub bad-lengths : room_to_write xs sh curve e qs vs out ≡ false → (w : Written) → w.refusal ≡ R.BadLengths → w.length ≡ 0 → as_writing w qs vs out ≡ writing xs sh curve e qs vs out
+      pub bad-lengths : room_to_write xs sh curve e qs vs out ≡ false → as_writing (Err R.BadLengths) qs vs out ≡ writing xs sh curve e qs vs out
       unfolding writing
-      bad-lengths y w a b = rw (n, good-settings, y) (told-no w R.BadLengths a b)
+      bad-lengths y = rw (n, good-settings, y)
 
       abbrev pts : ℕ
       pts = points sh
@@ -156,7 +149,7 @@ module _ (xs : List ℤ) (sh : Shape) (curve : Curve) (e : ℕ) (qs vs : List �
         quantizes : Q ≡ W.after_scan sh curve e xs qs vs (C.scanned sh.cols xs)
         quantizes = after-scan sh curve e xs qs vs (right sh curve e xs qs vs is-settled hx hq hv) (C.scanned sh.cols xs) refl
 
-        answered : (a : Quantized) → a ≡ Q.answer → a ≡ (W.after_scan sh curve e xs qs vs (C.scanned sh.cols xs)).answer
+        answered : (a : Result (Unit {0}) QuantizeError) → a ≡ Q.answer → a ≡ (W.after_scan sh curve e xs qs vs (C.scanned sh.cols xs)).answer
         answered a x = x ∙ ap (λ (z : W.Quantizing). z.answer) quantizes
 
         left-coefs : (q : List ℤ) → q ≡ Q.coefficients → q ≡ (W.after_scan sh curve e xs qs vs (C.scanned sh.cols xs)).coefficients
@@ -166,34 +159,34 @@ module _ (xs : List ℤ) (sh : Shape) (curve : Curve) (e : ℕ) (qs vs : List �
         left-values v x = x ∙ ap (λ (z : W.Quantizing). z.values) quantizes
 
         -- it is not refused
-        pub not-refused : Refused ≡ Q.answer → ⊥
-        not-refused x = go (C.scanned sh.cols xs) (answered Refused x) where
-          go : (s : Scan) → Refused ≡ (W.after_scan sh curve e xs qs vs s).answer → ⊥
-          go Clear y = let z : ◌≡◌ {A = ℕ} 0 1 = cc in omega arith
-          go (OutAt r c) y = let z : ◌≡◌ {A = ℕ} 0 1 = cc in omega arith
+        pub not-refused : Err BadLengths ≡ Q.answer → ⊥
+        not-refused x = go (C.scanned sh.cols xs) (answered (Err BadLengths) x) where
+          go : (s : Option Place) → Err BadLengths ≡ (W.after_scan sh curve e xs qs vs s).answer → ⊥
+          go None y = cc
+          go (Some place) y = cc
 
         -- a sample is out of range
-        abbrev out_details : Quantized → Details
-        out_details Done = refusal 0 0 0
-        out_details Refused = refusal 3 0 0
-        out_details (OutOfRange r c) = refusal 4 r c
+        abbrev out_details : Result (Unit {0}) QuantizeError → Details
+        out_details (Ok done) = refusal 0 0 0
+        out_details (Err BadLengths) = refusal 3 0 0
+        out_details (Err (OutOfRange place)) = refusal 4 place.row place.col
 
-        pub out_at : (row col : ℕ) (q v : List ℤ) (w : Written) → OutOfRange row col ≡ Q.answer → q ≡ Q.coefficients → v ≡ Q.values → w.refusal ≡ R.BadSample row col → w.length ≡ 0
-            → as_writing w q v out ≡ writing xs sh curve e qs vs out
-        out_at row col q v w x y z a b = go (C.scanned sh.cols xs) (answered _ x) (left-coefs q y) (left-values v z) ∙ sym writes where
-          go : (s : Scan) → OutOfRange row col ≡ (W.after_scan sh curve e xs qs vs s).answer → q ≡ (W.after_scan sh curve e xs qs vs s).coefficients → v ≡ (W.after_scan sh curve e xs qs vs s).values
-              → as_writing w q v out ≡ after_scan xs sh curve e qs vs out s
-          go Clear f g h = absurd (let z : ◌≡◌ {A = ℕ} 0 1 = cc in omega arith)
-          go (OutAt r c) f g h =
-              made-same (details_of w.refusal) (refusal 4 r c) w.length 0 q qs v vs out out (ap details_of a ∙ ap out_details f) b g h refl
+        pub out_at : (place : Place) (q v : List ℤ) → Err (OutOfRange place) ≡ Q.answer → q ≡ Q.coefficients → v ≡ Q.values
+            → as_writing (Err (R.BadSample place.row place.col)) q v out ≡ writing xs sh curve e qs vs out
+        out_at place q v x y z = go (C.scanned sh.cols xs) (answered _ x) (left-coefs q y) (left-values v z) ∙ sym writes where
+          go : (s : Option Place) → Err (OutOfRange place) ≡ (W.after_scan sh curve e xs qs vs s).answer → q ≡ (W.after_scan sh curve e xs qs vs s).coefficients → v ≡ (W.after_scan sh curve e xs qs vs s).values
+              → as_writing (Err (R.BadSample place.row place.col)) q v out ≡ after_scan xs sh curve e qs vs out s
+          go None f g h = absurd cc
+          go (Some s) f g h =
+              made-same (refusal 4 place.row place.col) (refusal 4 s.row s.col) 0 0 q qs v vs out out (ap out_details f) refl g h refl
 
         -- all are in range
-        coefs-held : (q : List ℤ) → Done ≡ Q.answer → q ≡ Q.coefficients → (length q ≡ points sh) × ((p : ℕ) → holds places_most (at q p) ≡ true)
+        coefs-held : (q : List ℤ) → Ok tt ≡ Q.answer → q ≡ Q.coefficients → (length q ≡ points sh) × ((p : ℕ) → holds places_most (at q p) ≡ true)
         coefs-held q x y = go (C.scanned sh.cols xs) refl (answered _ x) (left-coefs q y) where
-          go : (s : Scan) → C.scanned sh.cols xs ≡ s → Done ≡ (W.after_scan sh curve e xs qs vs s).answer → q ≡ (W.after_scan sh curve e xs qs vs s).coefficients
+          go : (s : Option Place) → C.scanned sh.cols xs ≡ s → Ok tt ≡ (W.after_scan sh curve e xs qs vs s).answer → q ≡ (W.after_scan sh curve e xs qs vs s).coefficients
               → (length q ≡ points sh) × ((p : ℕ) → holds places_most (at q p) ≡ true)
-          go (OutAt r c) k f g = absurd (let z : ◌≡◌ {A = ℕ} 0 1 = cc in omega arith)
-          go Clear k f g = rw g (
+          go (Some place) k f g = absurd cc
+          go None k f g = rw g (
             long,
             λ p. elim (dec_lt p (points sh)) [
               | yes h ↦ coefs-hold (samples-by sh e xs is-settled hx k) curve p h
@@ -211,7 +204,7 @@ module _ (xs : List ℤ) (sh : Shape) (curve : Curve) (e : ℕ) (qs vs : List �
         unfolding card_for all_held
         is-card q long held = rw (is-settled, full-yes sh q long, all-by (λ j. holds places_most (at q j)) (length q) (λ j _. held j))
 
-        card-put : (q : List ℤ) → Done ≡ Q.answer → q ≡ Q.coefficients → (r : ℕ) (o : List ℕ) → r ≡ after out 0 (card_for sh curve e q) → o ≡ putting out 0 (card_for sh curve e q)
+        card-put : (q : List ℤ) → Ok tt ≡ Q.answer → q ≡ Q.coefficients → (r : ℕ) (o : List ℕ) → r ≡ after out 0 (card_for sh curve e q) → o ≡ putting out 0 (card_for sh curve e q)
             → (r ≡ length (card_of sh curve e q)) × (o ≡ card_of sh curve e q ++ drop (length (card_of sh curve e q)) out)
         card-put q x y r o a b =
             let held = coefs-held q x y in
@@ -220,15 +213,15 @@ module _ (xs : List ℤ) (sh : Shape) (curve : Curve) (e : ℕ) (qs vs : List �
             let fits = put-fits out 0 (card_of sh curve e q) (omega arith) in
             (omega (arith, a, ap (after out 0) card, fits.0), b ∙ ap (putting out 0) card ∙ fits.1 ∙ sets-front out (card_of sh curve e q) short)
 
-        pub card-told : (q v : List ℤ) (r : ℕ) (o : List ℕ) → Done ≡ Q.answer → q ≡ Q.coefficients → v ≡ Q.values → r ≡ after out 0 (card_for sh curve e q)
-            → o ≡ putting out 0 (card_for sh curve e q) → as_writing (record { refusal = R.Accepted; length = r }) q v o ≡ writing xs sh curve e qs vs out
+        pub card-told : (q v : List ℤ) (r : ℕ) (o : List ℕ) → Ok tt ≡ Q.answer → q ≡ Q.coefficients → v ≡ Q.values → r ≡ after out 0 (card_for sh curve e q)
+            → o ≡ putting out 0 (card_for sh curve e q) → as_writing (Ok r) q v o ≡ writing xs sh curve e qs vs out
         card-told q v r o x y z a b = go (C.scanned sh.cols xs) (answered _ x) (left-coefs q y) (left-values v z) ∙ sym writes where
           put : (r ≡ length (card_of sh curve e q)) × (o ≡ card_of sh curve e q ++ drop (length (card_of sh curve e q)) out)
           put = card-put q x y r o a b
 
-          go : (s : Scan) → Done ≡ (W.after_scan sh curve e xs qs vs s).answer → q ≡ (W.after_scan sh curve e xs qs vs s).coefficients → v ≡ (W.after_scan sh curve e xs qs vs s).values
-              → as_writing (record { refusal = R.Accepted; length = r }) q v o ≡ after_scan xs sh curve e qs vs out s
-          go (OutAt r c) f g h = absurd (let z : ◌≡◌ {A = ℕ} 0 1 = cc in omega arith)
-          go Clear f g h =
+          go : (s : Option Place) → Ok tt ≡ (W.after_scan sh curve e xs qs vs s).answer → q ≡ (W.after_scan sh curve e xs qs vs s).coefficients → v ≡ (W.after_scan sh curve e xs qs vs s).values
+              → as_writing (Ok r) q v o ≡ after_scan xs sh curve e qs vs out s
+          go (Some place) f g h = absurd cc
+          go None f g h =
               made-same (refusal 0 0 0) (refusal 0 0 0) r _ q _ v _ o _ refl (put.0 ∙ ap (λ (x : List ℤ). length (card_of sh curve e x)) g) g h
               (put.1 ∙ ap (λ (x : List ℤ). card_of sh curve e x ++ drop (length (card_of sh curve e x)) out) g)

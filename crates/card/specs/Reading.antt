@@ -1,5 +1,5 @@
 -- Reading and showing (docs/CARD.md, "Plans, reading, refining"; "Refusals", reading). Reading is what one does to a card; the numbers that a vehicle measured are samples.
-use Rattle.std.specs.Prelude.{Bool, cond, ◌&&◌, List, ℕ, ltb, eqb, ℤ}
+use Rattle.std.specs.Prelude.{Bool, cond, ◌&&◌, List, ℕ, ltb, eqb, ℤ, Result, Ok, Err}
 use Rattle.digits.specs.Digits.{middle}
 use Rattle.sheet.specs.Limits.{layers_most}
 use Rattle.layers.specs.Layering.{layering, rebuilt, counted}
@@ -7,6 +7,7 @@ use Rattle.layers.specs.Samples.{full}
 use Rattle.header.specs.declared.Header.{Header}
 use Rattle.header.specs.declared.Plan.{Plan}
 use Rattle.header.specs.declared.Details.{Details}
+use Rattle.header.specs.declared.Refusal.{Refusal}
 use Rattle.header.specs.Refusals.{refusal, details_of}
 use Rattle.header.specs.Plan.{no_plan, loads, missing, first_over}
 use Rattle.header.specs.Losses.{told}
@@ -78,5 +79,6 @@ module _ (qs vs : List ℤ) where
   showing bs = after_opening (opening bs) (λ h ls long. read_opened bs h ls long (whole_of bs h long))
 
 -- the code's answer in these terms
-abbrev pub as_reading : Reached → List ℤ → List ℤ → Reading
-as_reading r qs vs = record { refused = details_of r.refusal; plan = r.plan; figure = r.figure; coefficients = qs; values = vs }
+abbrev pub as_reading : Result Reached Refusal → List ℤ → List ℤ → Reading
+as_reading (Ok r) qs vs = record { refused = refusal 0 0 0; plan = r.plan; figure = r.figure; coefficients = qs; values = vs }
+as_reading (Err r) qs vs = not_read qs vs (details_of r)

@@ -8,16 +8,10 @@ use Rattle.layers.specs.Workings.Calls.{rebuilding}
 use Rattle.header.specs.declared.Header.{Header}
 use Rattle.header.specs.declared.Plan.{Plan}
 use Rattle.header.specs.declared.Details.{Details}
-use Rattle.header.specs.declared.Refusal.{Refusal}
 use Rattle.header.specs.Refusals.{refusal}
-use Rattle.header.specs.Plan.{no_plan, loads, missing}
+use Rattle.header.specs.Plan.{loads, missing}
 use Rattle.figure.specs.Workings.{bound_of}
-use Rattle.card.specs.declared.Reached.{Reached}
 use Rattle.card.specs.Reading.{Reading, unless}
-
--- the code's answer where nothing is reached
-abbrev pub not_reached : Refusal → Reached
-not_reached refusal = record { refusal = refusal; plan = no_plan; figure = 0 }
 
 -- what the missing digits of each layer count as; no layer of a card has more digits than `digits_most`
 unfoldable pub middles_of : Header → Plan → List ℤ

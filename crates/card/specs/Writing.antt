@@ -1,15 +1,14 @@
 -- Writing (docs/CARD.md, "Refusals", writing; "The calls").
-use Rattle.std.specs.Prelude.{Bool, cond, ◌&&◌, ◌||◌, List, ◌++◌, ℕ, ◌*◌, ltb, leb, eqb, ℤ, length, drop}
+use Rattle.std.specs.Prelude.{Bool, cond, ◌&&◌, ◌||◌, List, ◌++◌, ℕ, ◌*◌, ltb, leb, eqb, ℤ, length, drop, Option, None, Some, Result, Ok, Err}
 use Rattle.sheet.specs.declared.Shape.{Shape}
 use Rattle.sheet.specs.declared.Curve.{Curve}
-use Rattle.layers.specs.declared.Scan.{Scan}
-use Rattle.layers.specs.declared.Scan.TheVariants.{Clear, OutAt}
+use Rattle.layers.specs.declared.Place.{Place}
 use Rattle.sheet.specs.Limits.{points_most, levels_most, step_most}
 use Rattle.layers.specs.Layering.{layering, written, coefs}
 use Rattle.layers.specs.Samples.{full, scanned}
 use Rattle.header.specs.declared.Details.{Details}
+use Rattle.header.specs.declared.Refusal.{Refusal}
 use Rattle.header.specs.Refusals.{refusal, details_of}
-use Rattle.card.specs.declared.Written.{Written}
 use Rattle.packing.specs.Planes.{card_of}
 
 -- the room that writing asks for
@@ -44,9 +43,9 @@ module _ (xs : List ℤ) (sh : Shape) (curve : Curve) (e : ℕ) (qs vs : List �
       }
 
   -- refusal 4: a sample is out of range (row and column of the first one)
-  abbrev pub after_scan : Scan → Writing
-  after_scan Clear = done (card_of sh curve e (coefs (layering sh curve) e xs))
-  after_scan (OutAt row col) = not_written (refusal 4 row col)
+  abbrev pub after_scan : Option Place → Writing
+  after_scan None = done (card_of sh curve e (coefs (layering sh curve) e xs))
+  after_scan (Some place) = not_written (refusal 4 place.row place.col)
 
   -- refusal 2: levels above 6, or a step above 65,535
   abbrev pub bad_settings : Bool
@@ -65,5 +64,6 @@ module _ (xs : List ℤ) (sh : Shape) (curve : Curve) (e : ℕ) (qs vs : List �
       (not_written (refusal 3 0 0))))
 
 -- the code's answer in these terms
-abbrev pub as_writing : Written → List ℤ → List ℤ → List ℕ → Writing
-as_writing w qs vs out = record { refused = details_of w.refusal; long = w.length; coefficients = qs; values = vs; output = out }
+abbrev pub as_writing : Result ℕ Refusal → List ℤ → List ℤ → List ℕ → Writing
+as_writing (Ok long) qs vs out = record { refused = refusal 0 0 0; long = long; coefficients = qs; values = vs; output = out }
+as_writing (Err r) qs vs out = record { refused = details_of r; long = 0; coefficients = qs; values = vs; output = out }

@@ -5,22 +5,14 @@ mod reading;
 mod refining;
 mod writing;
 
-use header::{Plan, Refusal};
-pub use reading::{examine, read, refused, show};
+use header::Plan;
+pub use reading::{examine, read, show};
 pub use refining::refine;
 pub use writing::write;
 
-// What writing answers: the card's length; 0 beside a refusal.
-#[derive(Clone, Copy)]
-pub struct Written {
-    pub refusal: Refusal,
-    pub length: usize,
-}
-
-// What reading and refining answer: the plan reached and its figure; 0 beside a refusal.
+// What reading and refining answer: the plan reached and its figure.
 #[derive(Clone, Copy)]
 pub struct Reached {
-    pub refusal: Refusal,
     pub plan: Plan,
     pub figure: u64,
 }

@@ -3,19 +3,12 @@ ghost use Rattle.std.specs.Prelude.{◌≡◌};
 ghost use Rattle.sheet.specs.Sheet as S;
 ghost use Rattle.card.specs.Writing as Wr;
 
-use crate::Written;
 use header::Refusal;
-use layers::Quantized;
+use layers::QuantizeError;
 use sheet::{Curve, MOST_LEVELS, MOST_STEP};
 
 // The room that writing asks for.
 const LEAST_OUTPUT: usize = 36864;
-
-fn refused(refusal: Refusal) -> Written
-    ensures { (result.refusal ≡ refusal) × (result.length ≡ 0) }
-{
-    Written { refusal, length: 0 }
-}
 
 // Writes a sheet: coefficients, rebuilt values, and the card at the front of the output. A refusal changes nothing.
 pub fn write(
@@ -28,35 +21,29 @@ pub fn write(
     coefficients: &mut [i32],
     values: &mut [i64],
     output: &mut [u8],
-) -> Written
+) -> Result<usize, Refusal>
     ensures { Wr.as_writing result coefficients.new values.new output.new ≡ Wr.writing samples.now (S.sheet_of rows cols levels) curve step coefficients.old values.old output.old }
 {
     if !sheet::sized(1, rows, cols) {
-        return refused(Refusal::BadSize);
+        return Err(Refusal::BadSize);
     }
     if MOST_LEVELS < levels || MOST_STEP < step {
-        return refused(Refusal::BadSettings);
+        return Err(Refusal::BadSettings);
     }
     let shape = sheet::sheet_of(rows, cols, levels);
     let points = sheet::points(shape);
     if samples.len() != points || coefficients.len() != points {
-        return refused(Refusal::BadLengths);
+        return Err(Refusal::BadLengths);
     }
     if values.len() != points || output.len() < LEAST_OUTPUT {
-        return refused(Refusal::BadLengths);
+        return Err(Refusal::BadLengths);
     }
     match layers::quantize(samples, shape, curve, step, coefficients, values) {
-        Quantized::Refused => refused(Refusal::BadLengths),
-        Quantized::OutOfRange { row, col } => refused(Refusal::BadSample {
-            row: row as u64,
-            col: col as u64,
+        Err(QuantizeError::BadLengths) => Err(Refusal::BadLengths),
+        Err(QuantizeError::OutOfRange(place)) => Err(Refusal::BadSample {
+            row: place.row as u64,
+            col: place.col as u64,
         }),
-        Quantized::Done => {
-            let length = packing::write_card(coefficients, shape, curve, step, output);
-            Written {
-                refusal: Refusal::Accepted,
-                length,
-            }
-        }
+        Ok(()) => Ok(packing::write_card(coefficients, shape, curve, step, output)),
     }
 }

@@ -15,23 +15,16 @@ use Rattle.sheet.specs.Sheet.{points}
 use Rattle.sheet.proofs.Accepting.{accepted-yes}
 use Rattle.header.specs.declared.Details.{Details}
 use Rattle.header.specs.declared.Refusal.{Refusal}
-use Rattle.header.specs.declared.Refusal.TheVariants as F
+use Rattle.std.specs.Prelude.{Ok, Err}
 use Rattle.header.specs.Refusals.{refusal, details_of}
 use Rattle.card.specs.declared.Reached.{Reached}
 use Rattle.card.specs.Reading.{Reading, showing, as_reading}
+use Rattle.header.proofs.Refusing.{refusing}
 use Rattle.card.proofs.Bare.{showing-bare}
 use Rattle.card.proofs.Values.{showing-answered}
-use Rattle.compare.specs.declared.Compared.{Compared}
 use Rattle.compare.specs.Comparing.{Lent, Comparing, apart_at, marks, same_size, size_refusal, not_compared, unless, compared, comparing, lent, as_comparing}
-use Rattle.compare.specs.Workings.{Small, apart_by, marked, shape_of, first_of, behind_first, not_answered}
+use Rattle.compare.specs.Workings.{Small, apart_by, marked, shape_of, first_of, behind_first}
 use Rattle.compare.proofs.Marks.{marks-first}
-
--- ---- the first of two refusals that is one
-pub first-refuses : (d next : Details) → (next.number ≡ 0 → ⊥) → (first_of d next).number ≡ 0 → ⊥
-first-refuses d next refused zero =
-    by (eqb d.number 0)
-    (λ y. refused (rw y at zero))
-    (λ n. eqb-false d.number 0 n (rw n at zero))
 
 -- ---- the sizes
 module _ (sh sh' : Shape) (bytes : List ℕ) where
@@ -120,15 +113,22 @@ module _ (one two : Lent) (bytes bs bs' : List ℕ) where
       let is = e ∙ refused-is in
       ap (not_compared one two bytes) is ∙ comparing-bare (λ zero. refused (ap (λ (x : Details). x.number) is ∙ zero))
 
+  -- what the first card is refused for where it is examined
+  pub examined-refused : (w : Refusal) → details_of w ≡ a.refused → as_comparing (Err w) one two bytes ≡ comparing one two bytes bs bs'
+  examined-refused w e = comparing-refused (details_of w) (rw (← e, ne_eqb (details_of w).number 0 (refusing w))) (refusing w)
+
+  -- and what is found behind it
+  pub behind-refused : refusal 0 0 0 ≡ a.refused → (w : Refusal) → details_of w ≡ behind → as_comparing (Err w) one two bytes ≡ comparing one two bytes bs bs'
+  behind-refused fine w e = comparing-refused (details_of w) (rw (← fine) e) (refusing w)
+
   -- a first card that is refused leaves its slices as they were
-  pub first-refused : (r : Reached) (qs vs : List ℤ) → as_reading r qs vs ≡ a → ((details_of r.refusal).number ≡ 0 → ⊥)
-      → (c : Compared) → c ≡ not_answered r.refusal → as_comparing c (lent qs vs) two bytes ≡ comparing one two bytes bs bs'
-  first-refused r qs vs shown refused c told =
-      let why : details_of r.refusal ≡ a.refused = ap (λ (s : Reading). s.refused) shown in
-      let is : a.refused.number ≡ 0 → ⊥ = λ zero. refused (ap (λ (d : Details). d.number) why ∙ zero) in
+  pub first-refused : (w : Refusal) (qs vs : List ℤ) → as_reading (Err w) qs vs ≡ a → as_comparing (Err w) (lent qs vs) two bytes ≡ comparing one two bytes bs bs'
+  first-refused w qs vs shown =
+      let why : details_of w ≡ a.refused = ap (λ (s : Reading). s.refused) shown in
+      let is : a.refused.number ≡ 0 → ⊥ = λ zero. refusing w (ap (λ (d : Details). d.number) why ∙ zero) in
       let kept = shown ∙ sym (showing-bare one.coefficients one.values bs is) in
-      (λ i. as_comparing (told i) (lent (kept i).coefficients (kept i).values) two bytes)
-      ∙ comparing-refused (details_of r.refusal) (why ∙ rw (ne_eqb a.refused.number 0 is)) refused
+      (λ i. as_comparing (Err w) (lent (kept i).coefficients (kept i).values) two bytes)
+      ∙ comparing-refused (details_of w) (why ∙ rw (ne_eqb a.refused.number 0 is)) (refusing w)
 
   -- nothing is refused
   pub record Compares : Type 0 where
@@ -148,7 +148,7 @@ module _ (one two : Lent) (bytes bs bs' : List ℕ) where
       (λ z. absurd (eqb-false _ 0 z (rw z at zero)))
 
   -- ---- both are shown, and the slices filled
-  module _ (c : Compares) (r r' : Reached) (qs vs qs' vs' : List ℤ) (shown : as_reading r qs vs ≡ a) (shown' : as_reading r' qs' vs' ≡ b) where
+  module _ (c : Compares) (r r' : Reached) (qs vs qs' vs' : List ℤ) (shown : as_reading (Ok r) qs vs ≡ a) (shown' : as_reading (Ok r') qs' vs' ≡ b) where
     abbrev n : ℕ
     n = points sh
 
@@ -165,17 +165,17 @@ module _ (one two : Lent) (bytes bs bs' : List ℕ) where
           ap (λ (s : Reading). length s.values) shown' ∙ second.1 ∙ sym (equal-points sh (shape_of bs') bytes c.sized.same) ∙ sym c.sized.long,
         )
 
-    pub all-is : (refusal : Refusal) → refusal ≡ F.Accepted → {ms : List ℕ} {number place cols : ℕ} → ms ≡ marks (apart_by r.figure vs r'.figure vs') (length bytes)
+    pub all-is : {ms : List ℕ} {number place cols : ℕ} → ms ≡ marks (apart_by r.figure vs r'.figure vs') (length bytes)
         → number ≡ count (apart_by r.figure vs r'.figure vs') (length bytes) → place ≡ nth (marked ms) (length ms) 0 → cols ≡ sh.cols
-        → as_comparing (record { refusal = refusal; number = number; row = place / cols; column = place % cols }) (lent qs vs) (lent qs' vs') ms ≡ comparing one two bytes bs bs'
+        → as_comparing (Ok (record { number = number; row = place / cols; column = place % cols })) (lent qs vs) (lent qs' vs') ms ≡ comparing one two bytes bs bs'
     unfolding apart_at
-    all-is refusal taken {ms} {number} {place} put counted found wide =
+    all-is {ms} {number} {place} put counted found wide =
         let ms-are : ms ≡ marks t n = put ∙ (λ i. marks (apart_by (shown i).figure (shown i).values (shown' i).figure (shown' i).values) (c.sized.long i)) in
         let number_is : number ≡ count t n = counted ∙ (λ i. count (apart_by (shown i).figure (shown i).values (shown' i).figure (shown' i).values) (c.sized.long i)) in
         let place_is : place ≡ nth t n 0 = found ∙ ap (λ (l : List ℕ). nth (marked l) (length l) 0) ms-are ∙ marks-first t n in
         (λ i.
         record {
-          refused = details_of (taken i);
+          refused = refusal 0 0 0;
           number = number_is i;
           row = place_is i / wide i;
           column = place_is i % wide i;

@@ -1,9 +1,10 @@
 -- Comparing two cards (docs/CARD.md, "The calls", the comparison; "Refusals", comparing).
-use Rattle.std.specs.Prelude.{Bool, cond, not, ◌&&◌, List, ℕ, ◌+◌, ◌/◌, ◌%◌, leb, eqb, ℤ, nat_abs, ◌-ℤ◌, length}
+use Rattle.std.specs.Prelude.{Bool, cond, not, ◌&&◌, List, ℕ, ◌+◌, ◌/◌, ◌%◌, leb, eqb, ℤ, nat_abs, ◌-ℤ◌, length, Result, Ok, Err}
 use Rattle.sheet.specs.declared.Shape.{Shape}
 use Rattle.sheet.specs.Lists.{at, tabulate, count, nth}
 use Rattle.sheet.specs.Sheet.{points}
 use Rattle.header.specs.declared.Details.{Details}
+use Rattle.header.specs.declared.Refusal.{Refusal}
 use Rattle.header.specs.Refusals.{refusal, details_of}
 use Rattle.header.specs.Opening.{opening}
 use Rattle.card.specs.Reading.{Reading, showing}
@@ -87,6 +88,7 @@ module _ (one two : Lent) (bytes : List ℕ) where
       unless a.refused (unless b.refused (unless (size_refusal sh (opening bs').header.shape bytes) (compared sh a b)))
 
 -- the code's answer in these terms
-abbrev pub as_comparing : Compared → Lent → Lent → List ℕ → Comparing
-as_comparing c one two bytes =
-    record { refused = details_of c.refusal; number = c.number; row = c.row; column = c.column; first = one; second = two; apart = bytes }
+abbrev pub as_comparing : Result Compared Refusal → Lent → Lent → List ℕ → Comparing
+as_comparing (Ok c) one two bytes =
+    record { refused = refusal 0 0 0; number = c.number; row = c.row; column = c.column; first = one; second = two; apart = bytes }
+as_comparing (Err r) one two bytes = not_compared one two bytes (details_of r)

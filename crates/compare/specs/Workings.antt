@@ -4,10 +4,8 @@ use Rattle.integers.specs.Distance.{Within}
 use Rattle.sheet.specs.declared.Shape.{Shape}
 use Rattle.sheet.specs.Lists.{at}
 use Rattle.header.specs.declared.Details.{Details}
-use Rattle.header.specs.declared.Refusal.{Refusal}
 use Rattle.header.specs.Opening.{opening}
 use Rattle.card.specs.Reading.{showing}
-use Rattle.compare.specs.declared.Compared.{Compared}
 use Rattle.compare.specs.Comparing.{Lent, agree, size_refusal}
 
 -- what a card shows is small enough for sums of two
@@ -34,7 +32,3 @@ first_of d next = cond (eqb d.number 0) next d
 -- what comparing with a card of this shape is refused for, behind what that card is: what showing the second is, then the sizes
 unfoldable pub behind_first : Shape → Lent → List ℕ → List ℕ → Details
 behind_first sh two bytes bs = first_of (showing two.coefficients two.values bs).refused (size_refusal sh (shape_of bs) bytes)
-
--- the code's answer where nothing is compared
-abbrev pub not_answered : Refusal → Compared
-not_answered refusal = record { refusal = refusal; number = 0; row = 0; column = 0 }

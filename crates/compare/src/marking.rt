@@ -31,9 +31,10 @@ pub(crate) fn mark(
 {
     let most = figure1 + figure2;
     let mut number: u64 = 0;
-    for p in 0..apart.len() {
+    // The values by place: what a `zip` with `iter_mut` leaves in the marks, no proof knows.
+    for (p, place) in apart.iter_mut().enumerate() {
         let mark = mark_of(most, values1[p], values2[p]);
-        apart[p] = mark as u8;
+        *place = mark as u8;
         number += mark;
     }
     number
@@ -47,10 +48,6 @@ pub(crate) fn first_apart(number: u64, apart: &[u8]) -> usize
     if number == 0 {
         return 0;
     }
-    for p in 0..apart.len() {
-        if apart[p] == 1 {
-            return p;
-        }
-    }
-    0
+    let first = apart.iter().position(|mark| *mark == 1);
+    first.unwrap_or(0)
 }

@@ -4,6 +4,7 @@ pub mod Range
 pub mod Value
 pub mod Places
 pub mod Losses
+pub mod Coded
 pub mod Gaps
 pub mod Expansion
 pub mod Missing

@@ -11,8 +11,10 @@ ghost use Rattle.digits.specs.Workings.{digits_most};
 
 pub use table::{GROUPS, by_groups, group_values};
 
-// The number whose digits are the word's bits, the lowest of which adds its weight.
+// The number whose digits are the word's bits, the lowest of which adds its weight. The demand has the two sums call one another
+// (docs/DECISIONS.md).
 #[cycle(even_places_odd_places)]
+#[tactic(auto, using(crate::proofs::Coded::sum_none, crate::proofs::Coded::even_wide, crate::proofs::Coded::even_sum))]
 pub fn even_places(word: u32) -> i64
     ensures { result ≡ value (bits_of 32 word) }
 {
@@ -25,6 +27,7 @@ pub fn even_places(word: u32) -> i64
 
 // The same where the lowest digit stands at an odd place and takes its weight away.
 #[cycle(even_places_odd_places)]
+#[tactic(auto, using(crate::proofs::Coded::sum_none, crate::proofs::Coded::odd_wide, crate::proofs::Coded::odd_less_wide, crate::proofs::Coded::odd_sum))]
 pub fn odd_places(word: u32) -> i64
     ensures { result ≡ neg_ℤ (value (bits_of 32 word)) }
 {
@@ -41,6 +44,7 @@ const MOST_DIGITS: u64 = 33;
 const ODD_WEIGHTS: i64 = 2863311530;
 
 // Digit p of q: bit p of q and the odd weights together, turned over at an odd place.
+#[tactic(auto, using(crate::proofs::Coded::digit_none, crate::proofs::Coded::digit_even, crate::proofs::Coded::digit_odd))]
 pub fn digit(q: i32, p: u64) -> u64
     ensures { result ≡ digit_at q p }
 {
@@ -53,50 +57,40 @@ pub fn digit(q: i32, p: u64) -> u64
 }
 
 // The fewest digits that hold q: n digits reach from low to high.
+#[tactic(auto, using(crate::proofs::Coded::ends_none, crate::proofs::Coded::doubled_high, crate::proofs::Coded::doubled_low, crate::proofs::Coded::next_wide, crate::proofs::Coded::next_low, crate::proofs::Coded::next_high, crate::proofs::Coded::below, crate::proofs::Coded::above, crate::proofs::Coded::all_needed))]
 pub fn digits_needed(q: i32) -> u64
     ensures { result ≡ fewest q }
 {
     let wide = q as i64;
-    let mut n: u64 = 0;
     let mut low: i64 = 0;
     let mut high: i64 = 0;
-    while n < MOST_DIGITS {
-        if low <= wide {
-            if wide <= high {
-                return n;
-            }
+    for n in 0..MOST_DIGITS {
+        if low <= wide && wide <= high {
+            return n;
         }
-        let next = 1 - 2 * low;
-        low = -2 * high;
-        high = next;
-        n += 1;
+        (low, high) = (-2 * high, 1 - 2 * low);
     }
-    n
-}
-
-// Of d digits, those that can be missing: no i32 has more than 33.
-fn clamped(d: u64) -> u64
-    ensures { result ≡ min d digits_most }
-{
-    if d < MOST_DIGITS { d } else { MOST_DIGITS }
+    MOST_DIGITS
 }
 
 // What is lost at most where the d lowest digits are missing and their middle is counted: half of a power.
+#[tactic(auto, using(crate::proofs::Coded::lost))]
 pub fn loss(d: u64) -> u64
     ensures { result ≡ D.loss (min d digits_most) }
 {
-    let n = clamped(d);
+    let n = d.min(MOST_DIGITS);
     (1 << n) / 2
 }
 
 // What d missing digits count as, the middle of what they can be: their largest less the loss; 0 where none are missing, as of most layers.
+#[tactic(auto, using(crate::proofs::Coded::middle_clear, crate::proofs::Coded::loss_small, crate::proofs::Coded::middle_wide, crate::proofs::Coded::middle_fits, crate::proofs::Coded::middle_counted))]
 pub fn middle(d: u64) -> i32
     ensures { result ≡ D.middle (min d digits_most) }
 {
     if d == 0 {
         return 0;
     }
-    let n = clamped(d);
+    let n = d.min(MOST_DIGITS);
     let largest: u64 = ((1 << (n + n % 2)) - 1) / 3;
     (largest as i64 - loss(d) as i64) as i32
 }

@@ -32,6 +32,7 @@ pub fn group_values() -> [i32; GROUPS]
 }
 
 // The entry of a word's lowest group.
+#[tactic(auto, using(crate::proofs::Coded::entry_value, crate::proofs::Coded::entry_size))]
 fn entry(table: &[i32; GROUPS], word: u32) -> i64
     ensures { (result ≡ G.entry table.now word) × Within (2 ^ 31) (G.entry table.now word) }
 {
@@ -40,6 +41,7 @@ fn entry(table: &[i32; GROUPS], word: u32) -> i64
 }
 
 // The number of a word's three lowest groups: their entries times 1, 256 and 65,536, added.
+#[tactic(auto, using(crate::proofs::Coded::grouped), unfolding(crate::specs::Groups::by_groups))]
 pub fn by_groups(table: &[i32; GROUPS], word: u32) -> i64
     ensures { result ≡ G.by_groups table.now word }
 {

@@ -1,5 +1,5 @@
 -- The pieces that are printed, in order, are the text of what is shown: the lines before the values, and then the rows.
-use mathlib.Core.Bool.{true, false}
+use mathlib.Core.Bool.{false}
 use mathlib.Core.List.{List, ◌++◌, append_assoc, append-nil}
 use mathlib.Core.Path.{◌≡◌, ap, ap₂, sym, ◌∙◌}
 use Prim.Native.Nat.{ℕ, ◌+◌, ◌*◌, ◌-◌, ◌<◌}
@@ -17,6 +17,7 @@ use Rattle.header.specs.Opening.{opening}
 use Rattle.card.specs.Reading.{Reading, showing}
 use Rattle.card.proofs.Bare.{showing-bare}
 use Rattle.card.proofs.Values.{showing-answered}
+use Rattle.std.specs.Prelude.{Ok, Err}
 use Rattle.display.specs.declared.Shown.{Shown}
 use Rattle.display.specs.Shown.{loaded_text, rows_text, text_of, room, seen, shown_of, values_of, shown_text}
 use Rattle.display.proofs.Order.{in_order, order-split, order_same}
@@ -25,29 +26,28 @@ use Rattle.header.proofs.OpenedSize.{opened-sheet}
 use Rattle.display.proofs.Rows.{rows-pieces}
 
 -- ---- the pieces of any answer
+refused-piece : (number : ℕ) (vs : List ℤ) → in_order (piece_at (Err number) vs) (pieces (Err number) vs) 0 ≡ text_of (Err number) vs
+unfolding in_order piece_at text_of
+refused-piece number vs = simp append-nil
+
 module _ (s : Shown) (vs : List ℤ) where
-  refused-piece : eqb s.number 0 ≡ false → in_order (piece_at s vs) (pieces s.number vs) 0 ≡ text_of s vs
-  unfolding in_order piece_at text_of
-  refused-piece e = simp (e, append-nil)
+  piece-value : (k : ℕ) → piece_at (Ok s) vs (sheet_lines + k) ≡ value_piece vs s.shape.cols k
+  unfolding piece_at
+  piece-value k = let d : sheet_lines + k - sheet_lines ≡ k = omega arith in rw (le-ltb (sheet_lines + k) sheet_lines (omega arith), d)
 
-  module _ (e : eqb s.number 0 ≡ true) where
-    piece-value : (k : ℕ) → piece_at s vs (sheet_lines + k) ≡ value_piece vs s.shape.cols k
-    unfolding piece_at
-    piece-value k = let d : sheet_lines + k - sheet_lines ≡ k = omega arith in rw (e, le-ltb (sheet_lines + k) sheet_lines (omega arith), d)
+  lines-pieces : in_order (piece_at (Ok s) vs) sheet_lines 0 ≡ line_text (ascii "rows=") s.shape.rows ++ line_text (ascii "cols=") s.shape.cols ++ loaded_text s.shape s.plan ++ line_text (ascii "figure=") s.figure
+  unfolding in_order piece_at
+  lines-pieces = simp (append_assoc, append-nil)
 
-    lines-pieces : in_order (piece_at s vs) sheet_lines 0 ≡ line_text (ascii "rows=") s.shape.rows ++ line_text (ascii "cols=") s.shape.cols ++ loaded_text s.shape s.plan ++ line_text (ascii "figure=") s.figure
-    unfolding in_order piece_at
-    lines-pieces = simp (e, append_assoc, append-nil)
+  module _ (some : 0 < s.shape.cols) (long : length vs ≡ points s.shape) where
+    values-pieces : in_order (piece_at (Ok s) vs) (length vs) sheet_lines ≡ rows_text (s.shape.depth * s.shape.rows) s.shape.cols vs
+    values-pieces =
+        order_same (piece_at (Ok s) vs) (value_piece vs s.shape.cols) (length vs) sheet_lines 0 (λ k _. rw zero-add (piece-value k))
+        ∙ rw long (rows-pieces s.shape.cols some (s.shape.depth * s.shape.rows) vs long)
 
-    module _ (some : 0 < s.shape.cols) (long : length vs ≡ points s.shape) where
-      values-pieces : in_order (piece_at s vs) (length vs) sheet_lines ≡ rows_text (s.shape.depth * s.shape.rows) s.shape.cols vs
-      values-pieces =
-          order_same (piece_at s vs) (value_piece vs s.shape.cols) (length vs) sheet_lines 0 (λ k _. rw zero-add (piece-value k))
-          ∙ rw long (rows-pieces s.shape.cols some (s.shape.depth * s.shape.rows) vs long)
-
-      sheet-pieces : in_order (piece_at s vs) (pieces s.number vs) 0 ≡ text_of s vs
-      unfolding text_of
-      sheet-pieces = rw e (order-split (piece_at s vs) sheet_lines (length vs) 0 ∙ ap₂ (λ (a b : List ℕ). a ++ b) lines-pieces values-pieces)
+    sheet-pieces : in_order (piece_at (Ok s) vs) (pieces (Ok s) vs) 0 ≡ text_of (Ok s) vs
+    unfolding text_of
+    sheet-pieces = order-split (piece_at (Ok s) vs) sheet_lines (length vs) 0 ∙ ap₂ (λ (a b : List ℕ). a ++ b) lines-pieces values-pieces
 
 -- ---- showing leaves a value for each point, whether it is refused or not
 pub values-long : (bs : List ℕ) → length (values_of bs) ≡ points (opening bs).header.shape
@@ -68,9 +68,9 @@ module _ (bs : List ℕ) where
       (λ t. eqb-true _ _ t)
       (λ t. sym (refused-shown t) ∙ e)
 
-  pub shown-pieces : in_order (piece_at (shown_of bs) (values_of bs)) (pieces (shown_of bs).number (values_of bs)) 0 ≡ shown_text bs
+  pub shown-pieces : in_order (piece_at (shown_of bs) (values_of bs)) (pieces (shown_of bs) (values_of bs)) 0 ≡ shown_text bs
   unfolding shown_text
   shown-pieces =
-      by (eqb (shown_of bs).number 0)
-      (λ e. sheet-pieces (shown_of bs) (values_of bs) e (opened-sheet bs (shown-opened (eqb-true _ _ e))).wide (values-long bs))
-      (λ e. refused-piece (shown_of bs) (values_of bs) e)
+      by (eqb (seen bs).refused.number 0)
+      (λ e. rw e (sheet-pieces _ (values_of bs) (opened-sheet bs (shown-opened (eqb-true _ _ e))).wide (values-long bs)))
+      (λ e. rw e (refused-piece (seen bs).refused.number (values_of bs)))

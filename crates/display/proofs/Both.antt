@@ -1,32 +1,37 @@
 -- What `open` and `compare` answer for two cards' bytes, in slices of zeros cut to the sheets, is what is said of both; its marks can be put in lines, on a page with room for any sheet's.
-use mathlib.Core.Bool.{Bool, cond}
-use mathlib.Core.List.{List}
+use mathlib.Core.Bool.{Bool, false, cond}
+use mathlib.Core.List.{List, ◌++◌}
 use mathlib.Core.Path.{◌≡◌, ap, sym, ◌∙◌}
 use Prim.Native.Nat.{ℕ, ◌+◌, ◌*◌, ◌≤◌}
 use native.Mathlib.Nat.{mul-le-mul_left}
 use native.Mathlib.Omega.{arith}
-use borrow.Author.Tests.{eqb-true, eqb-false}
+use borrow.Author.Tests.{eqb-true, eqb-false, ne_eqb}
 use lib.Dec.{eqb}
 use lib.IntN.{ℤ, pos}
 use lib.ListN.{length, take, drop, replicate}
 use lib.Seq.{sets, sets-eq, take_at}
-use Rattle.integers.proofs.Bools.{by, choice}
-use Rattle.sheet.specs.declared.Shape.{Shape}
+use Rattle.std.specs.Prelude.{Ok, Err}
+use Rattle.integers.proofs.Bools.{by, choice, cond_no}
 use Rattle.sheet.specs.Limits.{points_most}
 use Rattle.sheet.specs.Sheet.{points}
+use Rattle.sheet.specs.Workings.Shapes.{points_in}
 use Rattle.sheet.proofs.Lists.{length-tabulate, get_or-tabulate, get_or-zeros}
 use Rattle.header.specs.declared.Details.{Details}
 use Rattle.header.specs.declared.Opened.{Opened}
+use Rattle.header.specs.declared.Refusal.{Refusal}
+use Rattle.header.specs.Refusals.{details_of}
 use Rattle.header.specs.Opening as O
 use Rattle.header.specs.Opening.{opening}
 use Rattle.header.proofs.OpenedSize.{opened-sheet}
-use Rattle.header.proofs.Refusing.{answers, refused-blank}
-use Rattle.card.specs.Reading.{showing}
-use Rattle.compare.specs.Comparing.{apart_at, marks, Lent, Comparing, size_refusal, unless, comparing, lent}
+use Rattle.header.proofs.Refusing.{answers, refused-blank, refusing}
+use Rattle.card.specs.Reading.{Reading, showing}
+use Rattle.card.proofs.ReadCall.{showing-no}
+use Rattle.compare.specs.declared.Compared.{Compared}
+use Rattle.compare.specs.Comparing.{apart_at, marks, Lent, Comparing, size_refusal, not_compared, unless, comparing, as_comparing, lent}
 use Rattle.display.specs.Shown.{room}
 use Rattle.display.specs.Compared.{marks_text, seen_both, marks_of}
-use Rattle.display.specs.Workings.{marks_most, Marks}
-use Rattle.display.proofs.Seeing.{shape_is, sheet-small, cut-is, cut}
+use Rattle.display.specs.Workings.{marks_most, Marks, as_compared, compared_of}
+use Rattle.display.proofs.Seeing.{shape_is, sheet-small, points-few, cut-is, cut}
 use Rattle.display.proofs.MarkLines.{marks-long}
 
 -- ---- marks are 0 or 1
@@ -64,22 +69,50 @@ rows_few bs =
     (λ n. rw (refused-blank (answers bs) (eqb-false _ 0 n)) (omega arith))
 
 -- ---- two cards
-module _ (bs bs' : List ℕ) (o o' : Opened) (e : O.as_opening o (opening bs).losses ≡ opening bs) (e' : O.as_opening o' (opening bs').losses ≡ opening bs') where
-  pub in_both : {n n' : ℕ} {cs ws cs' ws' : List ℤ} {ms : List ℕ} {c : Comparing} → n ≡ points o.header.shape → n' ≡ points o'.header.shape
+module _ (bs bs' : List ℕ) where
+  pub in_both : {n n' : ℕ} {cs ws cs' ws' : List ℤ} {ms : List ℕ} {c : Comparing} → n ≡ points (opening bs).header.shape → n' ≡ points (opening bs').header.shape
       → cs ≡ replicate points_most (pos 0) → ws ≡ replicate points_most (pos 0) → cs' ≡ replicate points_most (pos 0) → ws' ≡ replicate points_most (pos 0) → ms ≡ replicate points_most 0
       → c ≡ comparing (lent (take n cs) (take n ws)) (lent (take n' cs') (take n' ws')) (take n ms) bs bs' → c ≡ seen_both bs bs'
   in_both {n} {n'} {cs} {ws} {cs'} {ws'} {ms} long long' c w c' w' m compared =
-      let one : (l : List ℤ) → l ≡ replicate points_most (pos 0) → take n l ≡ room bs = λ l f. ap (λ (k : ℕ). take k l) long ∙ cut bs o e l f in
-      let two : (l : List ℤ) → l ≡ replicate points_most (pos 0) → take n' l ≡ room bs' = λ l f. ap (λ (k : ℕ). take k l) long' ∙ cut bs' o' e' l f in
+      let one : (l : List ℤ) → l ≡ replicate points_most (pos 0) → take n l ≡ room bs = cut bs long in
+      let two : (l : List ℤ) → l ≡ replicate points_most (pos 0) → take n' l ≡ room bs' = cut bs' long' in
       let three : take n ms ≡ replicate (points (opening bs).header.shape) 0 =
-      cut-is 0 ms m n (omega (arith, long, (sheet-small bs o e).1)) ∙ ap (λ (k : ℕ). replicate k 0) long ∙ ap (λ (s : Shape). replicate (points s) 0) (shape_is bs o e) in
+      cut-is 0 ms m n (points-few bs long) ∙ ap (λ (k : ℕ). replicate k 0) long in
       compared ∙ (λ i. comparing (lent (one cs c i) (one ws w i)) (lent (two cs' c' i) (two ws' w' i)) (three i) bs bs')
 
+  -- the answer
+  pub not-compared : (r : Refusal) {one two : Lent} {ms : List ℕ} → as_comparing (Err r) one two ms ≡ seen_both bs bs' → as_compared (Err r) ≡ compared_of bs bs'
+  not-compared r e =
+      let refused : eqb (seen_both bs bs').refused.number 0 ≡ false = ne_eqb _ 0 (λ z. refusing r (ap (λ (c : Comparing). c.refused.number) e ∙ z)) in
+      let long : 0 ≡ (compared_of bs bs').length = sym (cond_no (eqb (seen_both bs bs').refused.number 0) _ _ refused) in
+      λ i. record { number = (e i).refused.number; apart = (e i).number; row = (e i).row; column = (e i).column; length = long i }
+
+  pub compared-is : (c : Compared) {one two : Lent} {ms : List ℕ} (n : ℕ) → n ≡ length (marks_of bs bs') → as_comparing (Ok c) one two ms ≡ seen_both bs bs'
+      → as_compared (Ok (record { apart = c.number; row = c.row; column = c.column; length = n })) ≡ compared_of bs bs'
+  compared-is c n is e =
+      λ i. record { number = (e i).refused.number; apart = (e i).number; row = (e i).row; column = (e i).column; length = cond (eqb (e i).refused.number 0) (is i) 0 }
+
+  -- where the first does not open, its refusal is that of both
+  pub unopened : (r : Refusal) → O.not_opened (details_of r) ≡ opening bs → as_comparing (Err r) (lent (room bs) (room bs)) (lent (room bs') (room bs')) (replicate (points (opening bs).header.shape) 0) ≡ seen_both bs bs'
+  unfolding comparing
+  unopened r e =
+      let z = showing-no bs r e (room bs) (room bs) in
+      let refused : eqb (showing (room bs) (room bs) bs).refused.number 0 ≡ false = ne_eqb _ 0 (λ y. refusing r (ap (λ (s : Reading). s.refused.number) z ∙ y)) in
+      rw refused (ap (λ (s : Reading). not_compared (lent (room bs) (room bs)) (lent (room bs') (room bs')) (replicate (points (opening bs).header.shape) 0) s.refused) z)
+
+-- ---- the lines of marks, behind the first that was opened
+module _ (bs bs' : List ℕ) (o : Opened) (e : O.as_opening (Ok o) (opening bs).losses ≡ opening bs) where
   abbrev rows : ℕ
   rows = o.header.shape.depth * o.header.shape.rows
 
   pub few : rows ≤ points o.header.shape
   few = rw (shape_is bs o e) (rows_few bs)
+
+  -- the marks, at the front of their slice
+  pub marks-front : {n : ℕ} {ms : List ℕ} (behind : List ℕ) → n ≡ points_in o.header.shape → length ms ≡ n → ms ≡ (seen_both bs bs').apart → (take n (ms ++ behind) ≡ (seen_both bs bs').apart) × (length (take n (ms ++ behind)) ≡ points o.header.shape)
+  marks-front {n} {ms} behind long all is =
+      let front = take_at ms behind n all in
+      (front ∙ is, ap length front ∙ all ∙ long ∙ (sheet-small bs o e).0)
 
   -- the marks in lines
   module _ {ms : List ℕ} (is : ms ≡ (seen_both bs bs').apart) (all : length ms ≡ points o.header.shape) where

@@ -11,7 +11,7 @@ use Rattle.text.specs.Line.{has_end, line_text}
 use Rattle.header.specs.Header.{ascii}
 use Rattle.header.specs.Opening.{opening}
 use Rattle.compare.specs.Comparing.{comparing}
-use Rattle.display.specs.Shown.{shown_of}
+use Rattle.display.specs.Shown.{seen}
 use Rattle.display.specs.Compared.{first_text, seen_both, marks_of, compared_text}
 use Rattle.display.specs.Workings.{buffer_bytes, input_number, first_number, both_number, compared_of}
 use Rattle.display.proofs.LongShown.{never-shown, input-number}
@@ -22,11 +22,11 @@ module _ (bs bs' : List ℕ) where
   compared-pieces = refl
 
   -- the order of the refusals
-  both-refused : (seen_both bs bs').refused.number ≡ first_number (shown_of bs).number (first_number (shown_of bs').number (seen_both bs bs').refused.number)
+  both-refused : (seen_both bs bs').refused.number ≡ first_number (seen bs).refused.number (first_number (seen bs').refused.number (seen_both bs bs').refused.number)
   unfolding comparing
   both-refused =
-      by (eqb (shown_of bs).number 0)
-      (λ x. by (eqb (shown_of bs').number 0) (λ y. rw (x, y)) (λ y. rw (x, y)))
+      by (eqb (seen bs).refused.number 0)
+      (λ x. by (eqb (seen bs').refused.number 0) (λ y. rw (x, y)) (λ y. rw (x, y)))
       (λ x. rw x)
 
 -- ---- an input: its first bytes, what follows them, and whether a byte 10 is said to follow them
@@ -35,7 +35,7 @@ pub record Told (bs rest : List ℕ) (ends : Bool) : Type 0 where
   pub follows : (opening bs).refused.number ≡ 5 → ends ≡ has_end rest
 
 module _ {bs rest : List ℕ} {ends : Bool} (told : Told bs rest ends) where
-  number_is : input_number bs ends ≡ (shown_of (bs ++ rest)).number
+  number_is : input_number bs ends ≡ (seen (bs ++ rest)).refused.number
   number_is = input-number bs rest ends told.all told.follows
 
   -- one that is shown is all there

@@ -16,10 +16,12 @@ use Rattle.sheet.specs.declared.Curve.{Curve}
 use Rattle.sheet.specs.Limits.{points_most, levels_most, layers_most, step_most}
 use Rattle.sheet.specs.Sheet.{accepted, sheet_of, layers}
 use Rattle.sheet.proofs.Accepting.{accepted-by, accepted-yes, layers-few}
+use Rattle.std.specs.Prelude.{Result, Ok, Err}
 use Rattle.text.specs.declared.Line.{Line}
-use Rattle.text.specs.declared.Line.TheVariants as L
+use Rattle.text.specs.declared.LineError.{LineError}
+use Rattle.text.specs.declared.LineError.TheVariants as L
 use Rattle.text.specs.Text.{padded}
-use Rattle.text.specs.Line.{newline, index_of, starts, has_end, line_at}
+use Rattle.text.specs.Line.{newline, index_of, starts, has_end, line_of, line_at}
 use Rattle.text.specs.Joined.{numbers_in}
 use Rattle.text.proofs.Digits.{length-le}
 use Rattle.text.proofs.Joins.{joined_length, written_back}
@@ -29,7 +31,7 @@ use Rattle.header.specs.Refusals.{refusal}
 use Rattle.header.specs.Header.{ascii_from, ascii, cell_bytes, planes_of}
 use Rattle.header.specs.Losses.{closed, losses_most}
 use Rattle.header.specs.Workings.{cells_most}
-use Rattle.header.specs.Opening.{Opening, opened, not_opened, taking, curve_line, curve_of, limits, listed, taking_numbers, opening_cells, opening_told, opening_losses, opening_planes, opening_step, opening_curve, opening_levels, opening_cols, opening_rows, after_first, opening}
+use Rattle.header.specs.Opening.{Opening, opened, not_opened, taking, curve_line, limits, listed, taking_numbers, opening_cells, opening_told, opening_losses, opening_planes, opening_step, opening_curve, opening_levels, opening_cols, opening_rows, after_first, opening}
 use Rattle.header.proofs.HeaderLines.{headed}
 use Rattle.header.proofs.Counts.{Counted, counts-read}
 use Rattle.header.proofs.Opens.{padded-in, padded-past}
@@ -47,12 +49,12 @@ Cut ends R = (n : ℕ) → R (not_opened (refusal 5 0 0)) (cond ends (not_opened
 abbrev Wrong : (Opening → Opening → Type 0) → Type 0
 Wrong R = (n : ℕ) → R (not_opened (refusal 6 n 0)) (not_opened (refusal 6 n 0))
 
-turn-long : (R : Opening → Opening → Type 0) (ends : Bool) → Cut ends R → Wrong R → (n : ℕ) (x : Line) (go all : ℕ → ℕ → Opening)
-    → ((v k : ℕ) → x ≡ L.Number v k → R (go v k) (all v k)) → R (taking n x go) (taking n (prolonged ends x) all)
-turn-long R true cut wrong n L.Short go all h = cut n
-turn-long R false cut wrong n L.Short go all h = cut n
-turn-long R ends cut wrong n L.Wrong go all h = wrong n
-turn-long R ends cut wrong n (L.Number v k) go all h = h v k refl
+turn-long : {A : Type 0} (R : Opening → Opening → Type 0) (ends : Bool) → Cut ends R → Wrong R → (n : ℕ) (x : Result (Line A) LineError) (go all : A → ℕ → Opening)
+    → ((v : A) (k : ℕ) → x ≡ line_of v k → R (go v k) (all v k)) → R (taking n x go) (taking n (prolonged ends x) all)
+turn-long R true cut wrong n (Err L.Short) go all h = cut n
+turn-long R false cut wrong n (Err L.Short) go all h = cut n
+turn-long R ends cut wrong n (Err L.Wrong) go all h = wrong n
+turn-long R ends cut wrong n (Ok l) go all h = h l.value l.length refl
 
 -- does a text start with a key? What follows enough of it does not matter
 starts-long : (key l rest : List ℕ) → length key ≤ length l → starts key (l ++ rest) ≡ starts key l
@@ -127,7 +129,7 @@ module _ (bs rest : List ℕ) (enough : buffer_bytes ≤ length bs) where
 
   module _ (R : Opening → Opening → Type 0) (cut : Cut ends R) (wrong : Wrong R) where
     line-turn : (n : ℕ) (key : List ℕ) (low high at : ℕ) (go all : ℕ → ℕ → Opening) → at ≤ 4096 → length key ≤ 512 → high < 2 ^ 64
-        → ((v k : ℕ) → line_at key low high (drop at bs) ≡ L.Number v k → k ≤ length key + 21 → R (go v k) (all v k))
+        → ((v k : ℕ) → line_at key low high (drop at bs) ≡ line_of v k → k ≤ length key + 21 → R (go v k) (all v k))
         → R (taking n (line_at key low high (drop at bs)) go) (taking n (line_at key low high (drop at (bs ++ rest))) all)
     line-turn n key low high at go all h k small follows =
         rw (behind at h, line-long key low high small (drop at bs) rest (omega (arith, length-drop at bs)))
@@ -225,9 +227,9 @@ module _ (bs rest : List ℕ) (enough : buffer_bytes ≤ length bs) where
     curve-turn at h =
         rw (behind at (omega arith), curve-long (drop at bs) rest (omega (arith, length-drop at bs)))
         (turn-long First ends first-cut first-wrong 4 (curve_line (drop at bs))
-        (λ v n. opening_step bs sh (curve_of v) (at + n))
-        (λ v n. opening_step (bs ++ rest) sh (curve_of v) (at + n))
-        (λ v n e. step-turn (curve_of v) (at + n) (omega (arith, curve-short (drop at bs) v n e))))
+        (λ v n. opening_step bs sh v (at + n))
+        (λ v n. opening_step (bs ++ rest) sh v (at + n))
+        (λ v n e. step-turn v (at + n) (omega (arith, curve-short (drop at bs) v n e))))
 
   levels-turn : (rows cols at : ℕ) → 1 ≤ rows → 1 ≤ cols → rows * cols ≤ points_most → at ≤ 55 → First (opening_levels bs rows cols at) (opening_levels (bs ++ rest) rows cols at)
   unfolding opening_levels ascii_from

@@ -9,18 +9,18 @@ use lib.Seq.{take-append-le, take-append-add}
 use Rattle.integers.proofs.Bools.{by, not_yes}
 use Rattle.sheet.specs.declared.Curve.{Curve}
 use Rattle.sheet.specs.declared.Curve.TheVariants.{Linear, Cubic}
-use Rattle.text.specs.declared.Number.{Number}
-use Rattle.text.specs.declared.Number.TheVariants as N
+use Rattle.std.specs.Prelude.{Option, Some, None, Result, Ok, Err}
 use Rattle.text.specs.declared.Line.{Line}
-use Rattle.text.specs.declared.Line.TheVariants as L
+use Rattle.text.specs.declared.LineError.{LineError}
+use Rattle.text.specs.declared.LineError.TheVariants.{Short, Wrong}
 use Rattle.text.specs.Decimal.{parsed}
-use Rattle.text.specs.Line.{newline, index_of, starts, has_end, numbered, line_at}
+use Rattle.text.specs.Line.{newline, index_of, starts, has_end, line_of, numbered, line_at}
 use Rattle.text.proofs.Digits.{length_most}
 use Rattle.text.proofs.Lines.{Written, written, line-length}
 use Rattle.text.proofs.Reading.{Spelt, spelt}
 use Rattle.text.proofs.Search.{Free, has_end_lem, no_end_lem, end-inside, end-past, before-le, before-in, before-past}
 use Rattle.header.specs.Header.{ascii_from}
-use Rattle.header.specs.Opening.{is_text, curve_line, curve_of}
+use Rattle.header.specs.Opening.{is_text, curve_line}
 use Rattle.header.proofs.CurveLine.{curve_words, same-is, read-curve}
 
 -- ---- any line: f tells what its text and its length come to, and s is the answer where it has no end
@@ -75,43 +75,43 @@ module _ {X : Type 0} (s : X) where
         (λ e. outside-short (short e) free (end-past rest e)))
 
 -- ---- lines of a number and of the curve
-abbrev pub prolonged : Bool → Line → Line
-prolonged ends L.Wrong = L.Wrong
-prolonged ends (L.Number v n) = L.Number v n
-prolonged ends L.Short = cond ends L.Wrong L.Short
+abbrev pub prolonged : {A : Type 0} → Bool → Result (Line A) LineError → Result (Line A) LineError
+prolonged ends (Ok l) = Ok l
+prolonged ends (Err Wrong) = Err Wrong
+prolonged ends (Err Short) = cond ends (Err Wrong) (Err Short)
 
 module _ (key : List ℕ) (low high : ℕ) (small : high < 2 ^ 64) where
-  abbrev number-line : List ℕ → ℕ → Line
-  number-line line b = cond (starts key line) (numbered (b + 1) (parsed low high (drop (length key) line))) L.Wrong
+  abbrev number-line : List ℕ → ℕ → Result (Line ℕ) LineError
+  number-line line b = cond (starts key line) (numbered (b + 1) (parsed low high (drop (length key) line))) (Err Wrong)
 
   number-kept : (ends : Bool) (line : List ℕ) (b : ℕ) → number-line line b ≡ prolonged ends (number-line line b)
   number-kept ends line b = go (starts key line) (parsed low high (drop (length key) line))
     where
-      go : (s : Bool) (p : Number) → cond s (numbered (b + 1) p) L.Wrong ≡ prolonged ends (cond s (numbered (b + 1) p) L.Wrong)
-      go true (N.Value v) = refl
-      go true N.Wrong = refl
+      go : (s : Bool) (p : Option ℕ) → cond s (numbered (b + 1) p) (Err Wrong) ≡ prolonged ends (cond s (numbered (b + 1) p) (Err Wrong))
+      go true (Some v) = refl
+      go true None = refl
       go false p = refl
 
   -- a line of a key and a u64 has at most so many bytes before its end
-  number-wrong : (line : List ℕ) (b : ℕ) → length key + 20 < length line → number-line line b ≡ L.Wrong
+  number-wrong : (line : List ℕ) (b : ℕ) → length key + 20 < length line → number-line line b ≡ Err Wrong
   number-wrong line b h = go (starts key line) (parsed low high (drop (length key) line)) refl
     where
-      go : (s : Bool) (p : Number) → parsed low high (drop (length key) line) ≡ p → cond s (numbered (b + 1) p) L.Wrong ≡ L.Wrong
+      go : (s : Bool) (p : Option ℕ) → parsed low high (drop (length key) line) ≡ p → cond s (numbered (b + 1) p) (Err Wrong) ≡ Err Wrong
       go false p e = refl
-      go true N.Wrong e = refl
-      go true (N.Value v) e =
+      go true None e = refl
+      go true (Some v) e =
           let w : Spelt low high (drop (length key) line) v = spelt low high _ v e in
           absurd (let z : ⊥ = omega (arith, ap length w.text-is, length-drop (length key) line, length_most v (omega (arith, w.most))) in z)
 
   pub line-long : (l rest : List ℕ) → length key + 20 < length l → line_at key low high (l ++ rest) ≡ prolonged (has_end rest) (line_at key low high l)
   unfolding line_at
   line-long l rest h =
-      taken-long L.Short number-line number-line (λ x y. y ≡ prolonged (has_end rest) x) l rest
+      taken-long (Err Short) number-line number-line (λ x y. y ≡ prolonged (has_end rest) x) l rest
       (λ _. number-kept (has_end rest) (take (index_of newline l) l) (index_of newline l))
       (λ e line m. rw e (number-wrong line (length line) (omega arith)))
       (λ e. rw e)
 
-  pub line-short : (l : List ℕ) (v n : ℕ) → line_at key low high l ≡ L.Number v n → n ≤ length key + 21
+  pub line-short : (l : List ℕ) (v n : ℕ) → line_at key low high l ≡ line_of v n → n ≤ length key + 21
   line-short l v n e =
       let w : Written key low high l v n = written key low high l v n e in
       omega (arith, w.length-is, line-length key v, length_most v (omega (arith, w.most)))
@@ -122,13 +122,13 @@ unfolding ascii_from
 words-short Linear = omega arith
 words-short Cubic = omega arith
 
-abbrev curve-line : List ℕ → ℕ → Line
-curve-line line b = cond (is_text (curve_words Linear) line) (L.Number 0 (b + 1)) (cond (is_text (curve_words Cubic) line) (L.Number 1 (b + 1)) L.Wrong)
+abbrev curve-line : List ℕ → ℕ → Result (Line Curve) LineError
+curve-line line b = cond (is_text (curve_words Linear) line) (line_of Linear (b + 1)) (cond (is_text (curve_words Cubic) line) (line_of Cubic (b + 1)) (Err Wrong))
 
 curve-kept : (ends : Bool) (line : List ℕ) (b : ℕ) → curve-line line b ≡ prolonged ends (curve-line line b)
 curve-kept ends line b = go (is_text (curve_words Linear) line) (is_text (curve_words Cubic) line)
   where
-    go : (s t : Bool) → cond s (L.Number 0 (b + 1)) (cond t (L.Number 1 (b + 1)) L.Wrong) ≡ prolonged ends (cond s (L.Number 0 (b + 1)) (cond t (L.Number 1 (b + 1)) L.Wrong))
+    go : (s t : Bool) → cond s (line_of Linear (b + 1)) (cond t (line_of Cubic (b + 1)) (Err Wrong)) ≡ prolonged ends (cond s (line_of Linear (b + 1)) (cond t (line_of Cubic (b + 1)) (Err Wrong)))
     go true t = refl
     go false true = refl
     go false false = refl
@@ -139,10 +139,10 @@ curve-not c line h = not_yes (is_text (curve_words c) line) (λ e. let z : ⊥ =
 pub curve-long : (l rest : List ℕ) → 12 < length l → curve_line (l ++ rest) ≡ prolonged (has_end rest) (curve_line l)
 unfolding curve_line
 curve-long l rest h =
-    taken-long L.Short curve-line curve-line (λ x y. y ≡ prolonged (has_end rest) x) l rest
+    taken-long (Err Short) curve-line curve-line (λ x y. y ≡ prolonged (has_end rest) x) l rest
     (λ _. curve-kept (has_end rest) (take (index_of newline l) l) (index_of newline l))
     (λ e line m. rw (e, curve-not Linear line (omega arith), curve-not Cubic line (omega arith)))
     (λ e. rw e)
 
-pub curve-short : (l : List ℕ) (v n : ℕ) → curve_line l ≡ L.Number v n → n ≤ 13
-curve-short l v n e = let r = read-curve l v n e in omega (arith, r.length-is, words-short (curve_of v), length-append (curve_words (curve_of v)) (newline ∷ []))
+pub curve-short : (l : List ℕ) (v : Curve) (n : ℕ) → curve_line l ≡ line_of v n → n ≤ 13
+curve-short l v n e = let r = read-curve l v n e in omega (arith, r.length-is, words-short v, length-append (curve_words v) (newline ∷ []))

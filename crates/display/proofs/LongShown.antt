@@ -16,7 +16,7 @@ use Rattle.header.proofs.HeaderLines.{Accepts}
 use Rattle.header.proofs.Opens.{opened-right}
 use Rattle.header.proofs.WellFormed.{right-yes}
 use Rattle.header.proofs.TextLength.{card-fits}
-use Rattle.display.specs.Shown.{text_of, shown_of, shown_text}
+use Rattle.display.specs.Shown.{text_of, seen, shown_text}
 use Rattle.display.specs.Workings.{buffer_bytes, long_number, input_number}
 use Rattle.display.proofs.AllPieces.{refused-shown}
 use Rattle.display.proofs.LongInput.{long-opening}
@@ -33,10 +33,10 @@ module _ (bs rest : List ℕ) (enough : buffer_bytes ≤ length bs) where
   not_opened_lem : eqb (opening (bs ++ rest)).refused.number 0 ≡ false
   not_opened_lem = ne_eqb _ _ (long-refused (bs ++ rest) (omega (arith, length-append bs rest)))
 
-  pub never-shown : (shown_of (bs ++ rest)).number ≡ 0 → ⊥
+  pub never-shown : (seen (bs ++ rest)).refused.number ≡ 0 → ⊥
   never-shown shown = eqb-false _ _ not_opened_lem (sym (refused-shown (bs ++ rest) not_opened_lem) ∙ shown)
 
-  pub long-number : (shown_of (bs ++ rest)).number ≡ long_number (opening bs).refused.number (has_end rest)
+  pub long-number : (seen (bs ++ rest)).refused.number ≡ long_number (opening bs).refused.number (has_end rest)
   long-number = refused-shown (bs ++ rest) not_opened_lem ∙ long-opening bs rest enough
 
   pub long-shown : shown_text (bs ++ rest) ≡ line_text (ascii "refused=") (long_number (opening bs).refused.number (has_end rest))
@@ -49,7 +49,7 @@ ends-alike : (number : ℕ) (ends follows : Bool) → (number ≡ 5 → ends ≡
 ends-alike number ends follows same = by (eqb number 5) (λ y. rw y (ap (λ (b : Bool). cond b 6 5) (same (eqb-true number 5 y)))) (λ n. rw n)
 
 -- the number answered is that of all of its bytes
-pub input-number : (bs rest : List ℕ) (ends : Bool) → (length bs < buffer_bytes → rest ≡ []) → ((opening bs).refused.number ≡ 5 → ends ≡ has_end rest) → input_number bs ends ≡ (shown_of (bs ++ rest)).number
+pub input-number : (bs rest : List ℕ) (ends : Bool) → (length bs < buffer_bytes → rest ≡ []) → ((opening bs).refused.number ≡ 5 → ends ≡ has_end rest) → input_number bs ends ≡ (seen (bs ++ rest)).refused.number
 input-number bs rest ends all follows =
     by (ltb (length bs) buffer_bytes)
     (λ y. rw (y, all (ltb-true (length bs) buffer_bytes y), append-nil bs))

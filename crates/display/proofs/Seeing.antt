@@ -1,21 +1,28 @@
 -- What `open` and `show` answer for a card's bytes, in slices of zeros cut to the sheet, is what is shown of them.
+use mathlib.Core.Bool.{false, cond}
 use mathlib.Core.List.{List, ◌∷◌}
 use mathlib.Core.Path.{◌≡◌, refl, ap, ap₂, ◌∙◌}
 use Prim.Native.Nat.{ℕ, zero, suc, ◌≤◌}
 use native.Mathlib.Omega.{arith}
+use borrow.Author.Tests.{ne_eqb}
+use lib.Dec.{eqb}
 use lib.IntN.{ℤ, pos}
 use lib.ListN.{length, take, replicate, length-take, length-replicate}
+use Rattle.std.specs.Prelude.{Ok, Err}
 use Rattle.sheet.specs.declared.Shape.{Shape}
 use Rattle.sheet.specs.Limits.{points_most}
 use Rattle.sheet.specs.Sheet.{points}
+use Rattle.sheet.specs.Workings.Shapes.{points_in}
 use Rattle.header.specs.declared.Opened.{Opened}
-use Rattle.header.specs.Refusals.{details_of}
+use Rattle.header.specs.declared.Refusal.{Refusal}
 use Rattle.header.specs.Opening as O
+use Rattle.header.specs.Refusals.{details_of}
 use Rattle.header.specs.Opening.{Opening, opening}
 use Rattle.card.specs.declared.Reached.{Reached}
 use Rattle.card.specs.Reading.{Reading, as_reading, showing}
-use Rattle.display.specs.Shown.{room, seen, shown_of, values_of}
+use Rattle.display.specs.Shown.{as_shown, room, seen, shown_of}
 use Rattle.header.proofs.OpenedSize.{Small, opened-small}
+use Rattle.header.proofs.Refusing.{refusing}
 
 module _ {A : Type 0} (x : A) where
   take-replicate : (n m : ℕ) → n ≤ m → take n (replicate m x) ≡ replicate n x
@@ -33,24 +40,40 @@ module _ {A : Type 0} (x : A) where
         let long = ap length is ∙ length-replicate points_most x in
         (omega (arith, long), omega (arith, long, length-take n l))
 
-module _ (bs : List ℕ) (o : Opened) (e : O.as_opening o (opening bs).losses ≡ opening bs) where
+-- ---- what was opened: its sheet, and how many points it has
+module _ (bs : List ℕ) (o : Opened) (e : O.as_opening (Ok o) (opening bs).losses ≡ opening bs) where
   pub shape_is : o.header.shape ≡ (opening bs).header.shape
   shape_is = ap (λ (x : Opening). x.header.shape) e
 
   pub sheet-small : Small o.header.shape
   sheet-small = rw shape_is (opened-small bs)
 
-  -- a slice of zeros, cut to the sheet
-  pub cut : (l : List ℤ) → l ≡ replicate points_most (pos 0) → take (points o.header.shape) l ≡ room bs
-  cut l f = cut-is (pos 0) l f (points o.header.shape) sheet-small.1 ∙ ap (λ (s : Shape). replicate (points s) (pos 0)) shape_is
+  pub points-are : {n : ℕ} → n ≡ points_in o.header.shape → n ≡ points (opening bs).header.shape
+  points-are is = is ∙ ap points_in shape_is ∙ (opened-small bs).0
 
-  module _ (r : Reached) (qs vs cs ws : List ℤ) (c : cs ≡ replicate points_most (pos 0)) (w : ws ≡ replicate points_most (pos 0))
-      (d : as_reading r qs vs ≡ showing (take (points o.header.shape) cs) (take (points o.header.shape) ws) bs) where
-    seen-is : as_reading r qs vs ≡ seen bs
-    seen-is = d ∙ ap₂ (λ (a b : List ℤ). showing a b bs) (cut cs c) (cut ws w)
+  -- a slice with room for any sheet has room for so many
+  pub can-cut : {A : Type 0} (x : A) {n : ℕ} → n ≡ points_in o.header.shape → (l : List A) → l ≡ replicate points_most x → (n ≤ length l) × (n ≡ length (take n l))
+  can-cut x is l f = cut_fits x l f _ (omega (arith, points-are is, (opened-small bs).1))
 
-    pub shown-is : record { number = (details_of r.refusal).number; shape = o.header.shape; plan = r.plan; figure = r.figure } ≡ shown_of bs
-    shown-is = λ i. record { number = (seen-is i).refused.number; shape = shape_is i; plan = (seen-is i).plan; figure = (seen-is i).figure }
+-- ---- a slice of zeros, cut to the sheet
+module _ (bs : List ℕ) {n : ℕ} (long : n ≡ points (opening bs).header.shape) where
+  pub points-few : n ≤ points_most
+  points-few = omega (arith, long, (opened-small bs).1)
 
-    pub values-are : vs ≡ values_of bs
-    values-are = ap (λ (x : Reading). x.values) seen-is
+  pub cut : (l : List ℤ) → l ≡ replicate points_most (pos 0) → take n l ≡ room bs
+  cut l f = cut-is (pos 0) l f n points-few ∙ ap (λ (k : ℕ). replicate k (pos 0)) long
+
+  pub seen-in : {cs ws : List ℤ} {s : Reading} → cs ≡ replicate points_most (pos 0) → ws ≡ replicate points_most (pos 0) → s ≡ showing (take n cs) (take n ws) bs → s ≡ seen bs
+  seen-in {cs} {ws} c w d = d ∙ ap₂ (λ (a b : List ℤ). showing a b bs) (cut cs c) (cut ws w)
+
+-- ---- the answer
+module _ (bs : List ℕ) {qs vs : List ℤ} where
+  pub not-shown : (r : Refusal) → as_reading (Err r) qs vs ≡ seen bs → as_shown (Err r) ≡ shown_of bs
+  not-shown r e =
+      let number : (details_of r).number ≡ (seen bs).refused.number = ap (λ (s : Reading). s.refused.number) e in
+      let refused : eqb (seen bs).refused.number 0 ≡ false = ne_eqb _ 0 (λ z. refusing r (number ∙ z)) in
+      rw refused (ap (λ (n : ℕ). Err n) number)
+
+  pub shown-is : (sh : Shape) (r : Reached) → sh ≡ (opening bs).header.shape → as_reading (Ok r) qs vs ≡ seen bs → as_shown (Ok (record { shape = sh; plan = r.plan; figure = r.figure })) ≡ shown_of bs
+  shown-is sh r is e =
+      λ i. cond (eqb (e i).refused.number 0) (Ok (record { shape = is i; plan = (e i).plan; figure = (e i).figure })) (Err (e i).refused.number)

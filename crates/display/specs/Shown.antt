@@ -1,13 +1,15 @@
 -- What the programs print of a card (docs/CARD.md, "The calls", the programs `show` and `trace`).
-use Rattle.std.specs.Prelude.{cond, List, [], ◌∷◌, ◌++◌, ℕ, zero, suc, ◌*◌, eqb, ℤ, pos, take, drop, replicate}
+use Rattle.std.specs.Prelude.{cond, List, [], ◌∷◌, ◌++◌, ℕ, zero, suc, ◌*◌, eqb, ℤ, pos, take, drop, replicate, Result, Ok, Err}
 use Rattle.sheet.specs.declared.Shape.{Shape}
 use Rattle.sheet.specs.Sheet.{points, layers}
 use Rattle.text.specs.Decimal.{signed}
 use Rattle.text.specs.Line.{newline, line_text}
 use Rattle.text.specs.Joined.{comma, joined}
 use Rattle.header.specs.declared.Plan.{Plan}
+use Rattle.header.specs.declared.Refusal.{Refusal}
 use Rattle.header.specs.Header.{ascii}
 use Rattle.header.specs.Opening.{opening}
+use Rattle.header.specs.Refusals.{details_of}
 use Rattle.card.specs.Reading.{Reading, showing}
 use Rattle.roll.specs.Page.{page_text}
 use Rattle.display.specs.declared.Shown.{Shown}
@@ -28,16 +30,15 @@ unfoldable pub rows_text : ℕ → ℕ → List ℤ → List ℕ
 rows_text zero cols vs = []
 rows_text (suc rows) cols vs = (ascii "row=" ++ values_text (take cols vs) ++ newline ∷ []) ++ rows_text rows cols (drop cols vs)
 
--- ---- the whole text; rows count on through the sheets, once stacks come. A refused card gives one line
-unfoldable pub text_of : Shown → List ℤ → List ℕ
-text_of s vs =
-    cond (eqb s.number 0)
-    (line_text (ascii "rows=") s.shape.rows
+-- ---- the whole text; rows count on through the sheets, once stacks come. A refused card gives one line, of its refusal's number
+unfoldable pub text_of : Result Shown ℕ → List ℤ → List ℕ
+text_of (Ok s) vs =
+    line_text (ascii "rows=") s.shape.rows
     ++ line_text (ascii "cols=") s.shape.cols
     ++ loaded_text s.shape s.plan
     ++ line_text (ascii "figure=") s.figure
-    ++ rows_text (s.shape.depth * s.shape.rows) s.shape.cols vs)
-    (line_text (ascii "refused=") s.number)
+    ++ rows_text (s.shape.depth * s.shape.rows) s.shape.cols vs
+text_of (Err number) vs = line_text (ascii "refused=") number
 
 -- ---- what is shown of a card's bytes
 -- a slice of zeros as long as the sheet
@@ -48,9 +49,17 @@ room bs = replicate (points (opening bs).header.shape) (pos 0)
 abbrev pub seen : List ℕ → Reading
 seen bs = showing (room bs) (room bs) bs
 
--- the number of its refusal, or 0 and what stands before the values
-abbrev pub shown_of : List ℕ → Shown
-shown_of bs = record { number = (seen bs).refused.number; shape = (opening bs).header.shape; plan = (seen bs).plan; figure = (seen bs).figure }
+-- what stands before the values, or the number of its refusal
+abbrev pub shown_of : List ℕ → Result Shown ℕ
+shown_of bs =
+    cond (eqb (seen bs).refused.number 0)
+    (Ok (record { shape = (opening bs).header.shape; plan = (seen bs).plan; figure = (seen bs).figure }))
+    (Err (seen bs).refused.number)
+
+-- the code's answer so
+abbrev pub as_shown : Result Shown Refusal → Result Shown ℕ
+as_shown (Ok s) = Ok s
+as_shown (Err r) = Err (details_of r).number
 
 -- the values
 abbrev pub values_of : List ℕ → List ℤ

@@ -1,12 +1,14 @@
 -- How the text is written, piece by piece, and what is said of an input of any length. Laws: the pieces in order are the text (`AllPieces.shown-pieces`,
 -- `BothInputs.compared-pieces`), and what is said of an input, or of two, is what all its bytes show (`LongShown.input-number`, `long-shown`, `BothInputs.both-number`).
-use Rattle.std.specs.Prelude.{Bool, cond, not, ◌&&◌, List, [], ◌∷◌, ◌++◌, ℕ, ◌+◌, ◌*◌, ◌-◌, ◌%◌, ◌<◌, ◌≤◌, ltb, eqb, ℤ, pos, length, get_or}
+use Rattle.std.specs.Prelude.{Bool, cond, not, ◌&&◌, List, [], ◌∷◌, ◌++◌, ℕ, ◌+◌, ◌*◌, ◌-◌, ◌%◌, ◌<◌, ◌≤◌, ltb, eqb, ℤ, pos, length, get_or, Result, Ok, Err}
 use Rattle.std.proofs.lemmas.List.Edits.{sets}
 use Rattle.sheet.specs.Limits.{layers_most, points_most}
 use Rattle.text.specs.Text.{padded}
 use Rattle.text.specs.Workings.{characters_most}
 use Rattle.text.specs.Line.{newline, has_end, line_text}
 use Rattle.text.specs.Joined.{comma}
+use Rattle.header.specs.declared.Refusal.{Refusal}
+use Rattle.header.specs.Refusals.{details_of}
 use Rattle.header.specs.Header.{ascii}
 use Rattle.header.specs.Opening.{opening}
 use Rattle.roll.specs.Page.{line_places}
@@ -16,7 +18,7 @@ use Rattle.display.specs.declared.Compared.{Compared}
 use Rattle.display.specs.declared.Piece.{Piece}
 use Rattle.display.specs.declared.Shown.{Shown}
 use Rattle.text.specs.Decimal.{signed}
-use Rattle.display.specs.Shown.{loaded_text, shown_of}
+use Rattle.display.specs.Shown.{loaded_text, seen}
 use Rattle.display.specs.Compared.{seen_both, marks_of}
 
 -- ---- a piece: text in a fixed room
@@ -66,15 +68,14 @@ abbrev pub refused_line : ℕ → ℕ → List ℕ
 refused_line number i = cond (eqb i 0) (line_text (ascii "refused=") number) []
 
 -- piece i of all; nothing past the last
-unfoldable pub piece_at : Shown → List ℤ → ℕ → List ℕ
-piece_at s vs i =
-    cond (eqb s.number 0)
-    (cond (ltb i sheet_lines) (sheet_line s i) (value_piece vs s.shape.cols (i - sheet_lines)))
-    (refused_line s.number i)
+unfoldable pub piece_at : Result Shown ℕ → List ℤ → ℕ → List ℕ
+piece_at (Ok s) vs i = cond (ltb i sheet_lines) (sheet_line s i) (value_piece vs s.shape.cols (i - sheet_lines))
+piece_at (Err number) vs i = refused_line number i
 
 -- how many there are
-abbrev pub pieces : ℕ → List ℤ → ℕ
-pieces number vs = cond (eqb number 0) (sheet_lines + length vs) 1
+abbrev pub pieces : Result Shown ℕ → List ℤ → ℕ
+pieces (Ok s) vs = sheet_lines + length vs
+pieces (Err number) vs = 1
 
 -- ---- an input that is longer than any card, which has at most 36,864 bytes
 -- so much is read before an input is known to be one
@@ -96,7 +97,7 @@ long_number number ends = cond (eqb number 5) (cond ends 6 5) number
 
 -- the number of an input's refusal, 0 where there is none: these are all of its bytes, or as many as were read and what follows them
 abbrev pub input_number : List ℕ → Bool → ℕ
-input_number bs ends = cond (ltb (length bs) buffer_bytes) (shown_of bs).number (long_number (opening bs).refused.number ends)
+input_number bs ends = cond (ltb (length bs) buffer_bytes) (seen bs).refused.number (long_number (opening bs).refused.number ends)
 
 -- ---- room for the lines of any sheet's roll
 abbrev pub page_most : ℕ
@@ -111,11 +112,29 @@ first_number number next = cond (eqb number 0) next number
 abbrev pub both_number : List ℕ → Bool → List ℕ → Bool → ℕ
 both_number bs ends bs' ends' = first_number (input_number bs ends) (first_number (input_number bs' ends') (seen_both bs bs').refused.number)
 
--- what is said of two cards but for the lines of marks, of which it is how many bytes they take
-abbrev pub compared_of : List ℕ → List ℕ → Compared
+-- what is said of two cards but for the lines of marks, of which it is how many bytes they take: 0 and these, or the number of their refusal, and the rest is 0
+pub record Comparison : Type 0 where
+  pub number : ℕ
+  pub apart : ℕ
+  pub row : ℕ
+  pub column : ℕ
+  pub length : ℕ
+
+-- the code's answer as such a record
+abbrev pub as_compared : Result Compared Refusal → Comparison
+as_compared (Ok c) = record { number = 0; apart = c.apart; row = c.row; column = c.column; length = c.length }
+as_compared (Err r) = record { number = (details_of r).number; apart = 0; row = 0; column = 0; length = 0 }
+
+abbrev pub compared_of : List ℕ → List ℕ → Comparison
 compared_of bs bs' =
     let c = seen_both bs bs' in
-    record { number = c.refused.number; apart = c.number; row = c.row; column = c.column; length = length (marks_of bs bs') }
+    record {
+      number = c.refused.number;
+      apart = c.number;
+      row = c.row;
+      column = c.column;
+      length = cond (eqb c.refused.number 0) (length (marks_of bs bs')) 0;
+    }
 
 -- room for the lines of marks of any sheet: its points, and a line's end for each row
 abbrev pub marks_most : ℕ

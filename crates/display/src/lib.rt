@@ -29,27 +29,17 @@ pub struct Piece {
     pub length: usize,
 }
 
-// What is shown of a card but for its values: the number of its refusal, or 0 and the sheet's shape, the planes loaded and the figure.
+// What is shown of a card but for its values: the sheet's shape, the planes loaded and the figure.
 #[derive(Clone, Copy)]
 pub struct Shown {
-    pub number: u64,
     pub shape: Shape,
     pub plan: Plan,
     pub figure: u64,
 }
 
-// What is printed of a card as a roll: the number of its refusal, or 0 and how many bytes its lines take.
-#[derive(Clone, Copy)]
-pub struct Rolled {
-    pub number: u64,
-    pub length: usize,
-}
-
-// What is printed of two cards but for the lines of marks: the number of their refusal, or 0 and how many points are apart, row and column of the first, and
-// how many bytes those lines take.
+// What is printed of two cards but for the lines of marks: how many points are apart, row and column of the first, and how many bytes those lines take.
 #[derive(Clone, Copy)]
 pub struct Compared {
-    pub number: u64,
     pub apart: u64,
     pub row: u64,
     pub column: u64,
@@ -68,11 +58,11 @@ pub const BUFFER: usize = 40000;
 // How much more is looked at in one turn.
 pub const CHUNK: usize = 4096;
 
-// An input: how many of its bytes were read, and whether a byte 10 follows them. That is looked for only where the bytes fill the buffer and end before a
+// An input: its bytes that were read, and whether a byte 10 follows them. That is looked for only where the bytes fill the buffer and end before a
 // line's byte 10; otherwise nothing hangs on it.
 #[derive(Clone, Copy)]
-pub struct Input {
-    pub length: usize,
+pub struct Input<'a> {
+    pub bytes: &'a [u8],
     pub ends: bool,
 }
 

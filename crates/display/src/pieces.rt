@@ -1,6 +1,6 @@
 // The pieces of text, each made by putting text behind text.
-ghost use Rattle.std.specs.Prelude.{◌≡◌, [], ◌+◌, ◌≤◌, length, take};
-ghost use Rattle.sheet.specs.Limits.{layers_most, points_most};
+ghost use Rattle.std.specs.Prelude.{◌≡◌, [], ◌+◌, ◌≤◌, length};
+ghost use Rattle.sheet.specs.Limits.{points_most};
 ghost use Rattle.text.specs.Decimal as T;
 ghost use Rattle.text.specs.Workings as W;
 ghost use Rattle.text.specs.Line as L;
@@ -11,7 +11,7 @@ ghost use Rattle.display.specs.Workings as Wk;
 
 use crate::{MOST_PIECE, Piece, Shown};
 use header::Plan;
-use sheet::{MOST_LAYERS, Shape};
+use sheet::Shape;
 
 // The lines before the values.
 const SHEET_LINES: usize = 4;
@@ -73,13 +73,13 @@ pub(crate) fn first_line(row: u64, column: u64) -> Piece
     with_text(with_number(first, column), b"\n")
 }
 
-// A piece with the first `count` numbers behind it, commas between.
-fn with_list(piece: Piece, numbers: [u64; MOST_LAYERS], count: usize) -> Piece
-    requires { (count ≤ layers_most) × (piece.length + length (J.joined (take count numbers)) ≤ Wk.piece_most) }
-    ensures { result ≡ Wk.extended piece (J.joined (take count numbers)) }
+// A piece with numbers behind it, commas between.
+fn with_list(piece: Piece, numbers: &[u64]) -> Piece
+    requires { piece.length + length (J.joined numbers.now) ≤ Wk.piece_most }
+    ensures { result ≡ Wk.extended piece (J.joined numbers.now) }
 {
     let mut bytes = piece.bytes;
-    let length = text::put_joined(&mut bytes, piece.length, &numbers[..count]);
+    let length = text::put_joined(&mut bytes, piece.length, numbers);
     Piece { bytes, length }
 }
 
@@ -87,9 +87,8 @@ fn with_list(piece: Piece, numbers: [u64; MOST_LAYERS], count: usize) -> Piece
 pub(crate) fn loaded_line(shape: Shape, plan: Plan) -> Piece
     ensures { result ≡ Wk.piece_of (S.loaded_text shape plan) }
 {
-    let planes = plan.planes;
-    let key = with_text(nothing(), b"loaded=");
-    with_text(with_list(key, planes, sheet::layer_count(shape)), b"\n")
+    let planes = &plan.planes[..sheet::layer_count(shape)];
+    with_text(with_list(with_text(nothing(), b"loaded="), planes), b"\n")
 }
 
 // What stands before a value: the key of its line, where it is the first.
@@ -119,35 +118,29 @@ fn with_end(piece: Piece, last: bool) -> Piece
 pub(crate) fn value_piece(values: &[i64], cols: usize, i: usize) -> Piece
     ensures { result ≡ Wk.piece_of (Wk.value_piece values.now cols i) }
 {
-    if values.len() <= i {
+    let Some(value) = values.get(i) else {
         return nothing();
-    }
+    };
     if cols == 0 {
         return nothing();
     }
     let column = i % cols;
-    let piece = with_value(row_start(column), values[i]);
+    let piece = with_value(row_start(column), *value);
     with_end(piece, column + 1 == cols)
 }
 
 // Line i of those before the values.
+#[tactic(auto, unfolding(header::specs::Header::ascii_from))]
 fn sheet_line(shown: Shown, i: usize) -> Piece
     ensures { result ≡ Wk.piece_of (Wk.sheet_line shown i) }
 {
     let shape = shown.shape;
-    let rows = shape.rows;
-    let cols = shape.cols;
-    let plan = shown.plan;
-    if i == 0 {
-        return line(b"rows=", rows as u64);
+    match i {
+        0 => line(b"rows=", shape.rows as u64),
+        1 => line(b"cols=", shape.cols as u64),
+        2 => loaded_line(shape, shown.plan),
+        _ => line(b"figure=", shown.figure),
     }
-    if i == 1 {
-        return line(b"cols=", cols as u64);
-    }
-    if i == 2 {
-        return loaded_line(shape, plan);
-    }
-    line(b"figure=", shown.figure)
 }
 
 // The one line of a refused card.
@@ -161,29 +154,25 @@ pub(crate) fn refused_line(number: u64, i: usize) -> Piece
     }
 }
 
-// Piece i of the text that is printed; nothing past the last.
-pub fn piece_at(shown: Shown, values: &[i64], i: usize) -> Piece
+// Piece i of the text that is printed, of what is shown or of a refusal's number; nothing past the last.
+#[tactic(auto, unfolding(crate::specs::Workings::piece_at))]
+pub fn piece_at(shown: Result<Shown, u64>, values: &[i64], i: usize) -> Piece
     ensures { result ≡ Wk.piece_of (Wk.piece_at shown values.now i) }
 {
-    let shape = shown.shape;
-    let cols = shape.cols;
-    if shown.number != 0 {
-        return refused_line(shown.number, i);
+    match shown {
+        Ok(shown) if i < SHEET_LINES => sheet_line(shown, i),
+        Ok(shown) => value_piece(values, shown.shape.cols, i - SHEET_LINES),
+        Err(number) => refused_line(number, i),
     }
-    if SHEET_LINES <= i {
-        return value_piece(values, cols, i - SHEET_LINES);
-    }
-    sheet_line(shown, i)
 }
 
 // How many pieces the text has.
-pub(crate) fn pieces(number: u64, values: &[i64]) -> usize
+pub(crate) fn pieces(shown: Result<Shown, u64>, values: &[i64]) -> usize
     requires { length values.now ≤ points_most }
-    ensures { result ≡ Wk.pieces number values.now }
+    ensures { result ≡ Wk.pieces shown values.now }
 {
-    if number != 0 {
-        1
-    } else {
-        SHEET_LINES + values.len()
+    match shown {
+        Ok(_) => SHEET_LINES + values.len(),
+        Err(_) => 1,
     }
 }

@@ -1,5 +1,5 @@
 // Reading a card from a file. No contract can speak of what is read, so these lines are to be read too.
-ghost use Rattle.io.specs.Counts.{IsPrefixLen};
+ghost use Rattle.std.specs.Prelude.{◌≤◌, length};
 
 use crate::answers::{ahead_of, opening_number};
 use crate::{Ahead, BUFFER, CHUNK, Input};
@@ -13,23 +13,23 @@ fn look(file: i32) -> Ahead {
 
 // Does a byte 10 follow in the file? The turns are more than any file uses up.
 fn ends_later(file: i32) -> bool {
-    let mut turns = u64::MAX;
-    while 0 < turns {
+    for _ in 0..u64::MAX {
         match look(file) {
             Ahead::End => return true,
             Ahead::Nothing => return false,
-            Ahead::More => turns -= 1,
+            Ahead::More => {}
         }
     }
     false
 }
 
-// Reads a file into a buffer of `BUFFER` bytes, as far as it goes. Of what was read it is only promised that it is within the buffer: no contract can
-// speak of what a file holds.
-pub fn read(file: i32, buffer: &mut [u8]) -> Input
-    ensures { IsPrefixLen result.length buffer.new }
+// Reads a file into a buffer of `BUFFER` bytes, as far as it goes, and answers the part that was read. Of it is only promised that the buffer has room for it:
+// no contract can speak of what a file holds.
+pub fn read(file: i32, buffer: &mut [u8]) -> Input<'_>
+    ensures { length result.bytes.now ≤ length buffer.old }
 {
     let length = io::read_full(file, buffer);
-    let ends = BUFFER <= length && opening_number(&buffer[..length]) == 5 && ends_later(file);
-    Input { length, ends }
+    let bytes = &buffer[..length];
+    let ends = BUFFER <= length && opening_number(bytes) == 5 && ends_later(file);
+    Input { bytes, ends }
 }

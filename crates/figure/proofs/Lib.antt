@@ -1,3 +1,4 @@
+pub mod Ahead
 pub mod Numbers
 pub mod Limits
 pub mod Figures

@@ -1,10 +1,10 @@
 -- The figure of a plan of a card, as a call (docs/CARD.md, "Refusals", figure).
-use Rattle.std.specs.Prelude.{cond, List, ℕ, ltb, eqb}
+use Rattle.std.specs.Prelude.{cond, List, ℕ, ltb, eqb, Result, Ok, Err}
 use Rattle.sheet.specs.Limits.{layers_most}
 use Rattle.header.specs.declared.Header.{Header}
 use Rattle.header.specs.declared.Plan.{Plan}
 use Rattle.header.specs.declared.Details.{Details}
-use Rattle.figure.specs.declared.Bounded.{Bounded}
+use Rattle.header.specs.declared.Refusal.{Refusal}
 use Rattle.header.specs.Refusals.{refusal, details_of}
 use Rattle.header.specs.Header.{planes_of}
 use Rattle.header.specs.Losses.{told}
@@ -17,12 +17,13 @@ pub record Bounding : Type 0 where
   pub refused : Details
   pub figure : ℕ
 
--- the code's answer as such a record
-abbrev pub as_bounding : Bounded → Bounding
-as_bounding b = record { refused = details_of b.refusal; figure = b.figure }
-
 abbrev pub not_bounded : Details → Bounding
 not_bounded d = record { refused = d; figure = 0 }
+
+-- the code's answer as such a record
+abbrev pub as_bounding : Result ℕ Refusal → Bounding
+as_bounding (Ok figure) = record { refused = refusal 0 0 0; figure = figure }
+as_bounding (Err r) = not_bounded (details_of r)
 
 -- refusal 9: a layer is asked for more planes than the header names; past the last layer its counts are 0 (the first such place)
 abbrev pub bounded_by : Header → List ℕ → (ℕ → ℕ) → ℕ → Bounding

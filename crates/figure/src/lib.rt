@@ -5,7 +5,6 @@ mod bound;
 mod rules;
 
 pub use bound::{error_bound, figure};
-use header::Refusal;
 pub use rules::{carried, charge, rule_of};
 use sheet::Curve;
 
@@ -13,11 +12,4 @@ use sheet::Curve;
 #[derive(Clone, Copy)]
 pub struct Rule {
     pub curve: Curve,
-}
-
-// A figure; 0 beside a refusal.
-#[derive(Clone, Copy)]
-pub struct Bounded {
-    pub refusal: Refusal,
-    pub figure: u64,
 }

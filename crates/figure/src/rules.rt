@@ -61,16 +61,13 @@ fn loss_from(losses: &[u32], first: usize, d: u64) -> u64
     requires { d ≤ Hd.places_most }
     ensures { result ≡ F.loss_from losses.now first d }
 {
-    if losses.len() <= first {
-        return digits::loss(d);
-    }
     if d == 0 {
         return 0;
     }
-    if losses.len() - first < d as usize {
-        return digits::loss(d);
+    match losses.get(first.saturating_add(d as usize - 1)) {
+        Some(loss) => u64::from(*loss),
+        None => digits::loss(d),
     }
-    losses[first + d as usize - 1] as u64
 }
 
 // What a layer of `count` planes adds of its own where n of them are loaded, loss × w; its numbers begin at `first`. Nothing can be said of a step or a count of planes that no card has, or of more planes than the layer has: the largest number.

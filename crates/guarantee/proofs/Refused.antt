@@ -13,8 +13,8 @@ use Rattle.sheet.specs.declared.Curve.{Curve}
 use Rattle.sheet.specs.declared.Curve.TheVariants.{Linear, Cubic}
 use Rattle.sheet.specs.Limits.{layers_most}
 use Rattle.sheet.specs.Sheet.{sheet_of, layers}
-use Rattle.layers.specs.declared.Scan.{Scan}
-use Rattle.layers.specs.declared.Scan.TheVariants.{Clear, OutAt}
+use Rattle.std.specs.Prelude.{Option, None, Some}
+use Rattle.layers.specs.declared.Place.{Place}
 use Rattle.layers.specs.Samples.{scanned}
 use Rattle.header.specs.declared.Header.{Header}
 use Rattle.header.specs.declared.Plan.{Plan}
@@ -42,9 +42,9 @@ module _ (xs : List ℤ) (sh : Shape) (curve : Curve) (e : ℕ) (qs vs : List �
   not_written_lem : (d : Details) → KeptByWriting qs vs out (not_written xs sh curve e qs vs out d)
   not_written_lem d = record { coefficients = λ _. refl; values = λ _. refl; output = λ _. refl }
 
-  scanned-kept : (s : Scan) → KeptByWriting qs vs out (after_scan xs sh curve e qs vs out s)
-  scanned-kept Clear = record { coefficients = λ no. absurd (no refl); values = λ no. absurd (no refl); output = λ no. absurd (no refl) }
-  scanned-kept (OutAt row col) = not_written_lem _
+  scanned-kept : (s : Option Place) → KeptByWriting qs vs out (after_scan xs sh curve e qs vs out s)
+  scanned-kept None = record { coefficients = λ no. absurd (no refl); values = λ no. absurd (no refl); output = λ no. absurd (no refl) }
+  scanned-kept (Some place) = not_written_lem _
 
   writing-kept : KeptByWriting qs vs out (writing xs sh curve e qs vs out)
   unfolding writing

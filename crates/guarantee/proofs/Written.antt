@@ -11,8 +11,8 @@ use lib.ListN.{length}
 use Rattle.integers.proofs.Bools.{by, and_left, or-no-left, or-no-right}
 use Rattle.sheet.specs.declared.Shape.{Shape}
 use Rattle.sheet.specs.declared.Curve.{Curve}
-use Rattle.layers.specs.declared.Scan.{Scan}
-use Rattle.layers.specs.declared.Scan.TheVariants.{Clear, OutAt}
+use Rattle.std.specs.Prelude.{Option, None, Some}
+use Rattle.layers.specs.declared.Place.{Place}
 use Rattle.sheet.specs.Limits.{levels_most, step_most}
 use Rattle.sheet.specs.Sheet.{points}
 use Rattle.layers.specs.Layering.{layering, coefs}
@@ -36,16 +36,16 @@ module _ (g : List ℤ) (sh : Shape) (curve : Curve) (e : ℕ) (qs vs : List ℤ
     pub sizes : bad_sizes sh.rows sh.cols ≡ false
     pub settings : bad_settings g sh curve e qs vs out ≡ false
     pub lengths : room_to_write g sh curve e qs vs out ≡ true
-    pub clear : scanned sh.cols g ≡ Clear
+    pub clear : scanned sh.cols g ≡ None
 
   -- the card of the samples
   pub passes-written : Passes → writing g sh curve e qs vs out ≡ done g sh curve e qs vs out (card_of sh curve e (coefs (layering sh curve) e g))
   unfolding writing
   passes-written t = rw (t.sizes, t.settings, t.lengths) (ap (after_scan g sh curve e qs vs out) t.clear)
 
-  after-clear : (s : Scan) → (after_scan g sh curve e qs vs out s).refused.number ≡ 0 → s ≡ Clear
-  after-clear Clear zero = refl
-  after-clear (OutAt row col) zero = absurd (one_none zero)
+  after-clear : (s : Option Place) → (after_scan g sh curve e qs vs out s).refused.number ≡ 0 → s ≡ None
+  after-clear None zero = refl
+  after-clear (Some place) zero = absurd (one_none zero)
 
   pub writing-passes : (writing g sh curve e qs vs out).refused.number ≡ 0 → Passes
   unfolding writing

@@ -17,13 +17,18 @@ use Rattle.sheet.specs.Sheet.{layers}
 use Rattle.sheet.proofs.Lists.{length-tabulate, get_or-tabulate}
 use Rattle.integers.proofs.Bools.{by}
 use Rattle.text.specs.Text.{padded}
-use Rattle.text.specs.Line.{newline, index_of, starts, has_end}
 use Rattle.text.specs.Joined.{numbers_in}
 use Rattle.text.specs.Workings.{is_some, or_zeros}
-use Rattle.text.proofs.Search.{has_end_lem, no_end_lem}
-use Rattle.header.specs.Refusals.{refusal}
-use Rattle.header.specs.Header.{places_most}
-use Rattle.header.specs.Opening.{Opening, not_opened, planes_most, limits, taking_numbers}
+use Rattle.std.specs.Prelude.{Ok, Err}
+use Rattle.sheet.specs.declared.Curve.{Curve}
+use Rattle.header.specs.declared.Refusal.{Refusal}
+use Rattle.header.specs.declared.Refusal.TheVariants.{BadLine}
+use Rattle.header.specs.Refusals.{details_of}
+use Rattle.header.specs.Workings.{refusing, keyed_at, PlanesRead}
+use Rattle.header.proofs.HeaderLines.{headed}
+use Rattle.header.proofs.Taking.{turn_refused, turn_read, numbers_turn, keyed-ends}
+use Rattle.header.specs.Header.{ascii, places_most}
+use Rattle.header.specs.Opening.{not_opened, opened, listed, planes_most, limits, opening_planes}
 use Rattle.header.proofs.WellFormed.{most-le, most-past}
 use Rattle.header.proofs.Counts.{Counted, counts-read}
 use Rattle.header.proofs.Opens.{padded-in, padded-past}
@@ -93,25 +98,29 @@ kept-few {sh} {text} few k i =
     (λ t. rw (padded-in counts (omega (arith, c.long)) i (ltb-true i (length counts) t)) (omega (arith, c.most i (omega (arith, c.long, ltb-true i (length counts) t)), most-le sh i)))
     (λ t. omega (arith, padded-past counts i (ltb-false i (length counts) t))))
 
--- ---- a line of a key and numbers
-module _ (n : ℕ) (key most bs : List ℕ) (at e : ℕ) (is : e ≡ at + index_of newline (drop at bs)) (go : List ℕ → ℕ → Opening) where
-  pub numbers-short : length bs ≤ e → taking_numbers n key most (drop at bs) go ≡ not_opened (refusal 5 0 0)
-  numbers-short h = simp (no_end_lem (drop at bs) (omega (arith, length-drop at bs)))
+-- ---- line 6, by what stands behind its key
+module _ (bs : List ℕ) (sh : Shape) (at : ℕ) where
+  pub planes_refused : (r : Refusal) → Err r ≡ refusing 6 (keyed_at (ascii "planes=") (drop at bs)) → (curve : Curve) (step : ℕ) → opening_planes bs sh curve step at ≡ not_opened (details_of r)
+  unfolding opening_planes
+  planes_refused r e curve step =
+      numbers_turn 6 (ascii "planes=") (limits sh) (drop at bs) (λ counts n. opened (headed sh curve step (padded layers_most counts)) none (at + n))
+      ∙ turn_refused 6 (keyed_at (ascii "planes=") (drop at bs)) r _ e
 
-  module _ (h : e < length bs) where
-    front : index_of newline (drop at bs) ≡ e - at
-    front = omega arith
+  module _ (text : List ℕ) (len : ℕ) (e : Ok (record { value = text; length = len }) ≡ refusing 6 (keyed_at (ascii "planes=") (drop at bs))) where
+    line_is : (curve : Curve) (step : ℕ)
+        → opening_planes bs sh curve step at ≡ listed 6 (numbers_in (limits sh) text) (λ counts. opened (headed sh curve step (padded layers_most counts)) none (at + len))
+    unfolding opening_planes
+    line_is curve step =
+        numbers_turn 6 (ascii "planes=") (limits sh) (drop at bs) (λ counts n. opened (headed sh curve step (padded layers_most counts)) none (at + n))
+        ∙ rw (turn_read 6 (keyed_at (ascii "planes=") (drop at bs)) _ e) refl
 
-    there : has_end (drop at bs) ≡ true
-    there = has_end_lem (drop at bs) (omega (arith, length-drop at bs))
+    pub planes_wrong : numbers_in (limits sh) text ≡ none → (curve : Curve) (step : ℕ) → opening_planes bs sh curve step at ≡ not_opened (details_of (BadLine 6))
+    planes_wrong q curve step = line_is curve step ∙ rw q refl
 
-    pub numbers-other : starts key (take (e - at) (drop at bs)) ≡ false → taking_numbers n key most (drop at bs) go ≡ not_opened (refusal 6 n 0)
-    numbers-other s = simp (front, there, s)
-
-    -- the text behind the key
-    module _ (s : starts key (take (e - at) (drop at bs)) ≡ true) (text : List ℕ) (behind : text ≡ drop (length key) (take (e - at) (drop at bs))) where
-      pub numbers-wrong : numbers_in most text ≡ none → taking_numbers n key most (drop at bs) go ≡ not_opened (refusal 6 n 0)
-      numbers-wrong q = simp (front, there, s, ← behind, q)
-
-      pub numbers-right : (ns : List ℕ) → numbers_in most text ≡ some ns → taking_numbers n key most (drop at bs) go ≡ go ns (e - at + 1)
-      numbers-right ns q = simp (front, there, s, ← behind, q)
+    pub planes_right : layers sh ≤ layers_most → (planes : List ℕ) → Kept sh text planes → PlanesRead (record { value = planes; length = len }) bs sh at
+    planes_right few planes k =
+        record {
+          told = λ curve step. line_is curve step ∙ rw (k.read_is, k.planes-are) refl;
+          few = kept-few few k;
+          inside = keyed-ends bs at len (ascii "planes=") text (turn_read 6 (keyed_at (ascii "planes=") (drop at bs)) _ e);
+        }

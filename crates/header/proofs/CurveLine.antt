@@ -1,7 +1,7 @@
 -- Line 4 is read exactly where it is written: the text before its byte 10 is one of two.
 use mathlib.Core.Bool.{Bool, true, false, cond}
 use mathlib.Core.List.{List, ◌++◌, append-nil}
-use mathlib.Core.Path.{◌≡◌, refl, ◌∙◌}
+use mathlib.Core.Path.{◌≡◌, refl, ap, ◌∙◌}
 use Prim.Native.Nat.{ℕ, ◌+◌}
 use native.Mathlib.Omega.{arith}
 use borrow.Author.Tests.{eqb-true}
@@ -10,22 +10,15 @@ use lib.ListN.{length, take, drop_of_length-le}
 use Rattle.sheet.specs.declared.Curve.{Curve}
 use Rattle.sheet.specs.declared.Curve.TheVariants.{Linear, Cubic}
 use Rattle.integers.proofs.Bools.{and_left, and_right}
-use Rattle.text.specs.declared.Line.TheVariants as L
-use Rattle.text.specs.Line.{newline, index_of, starts, has_end}
+use Rattle.std.specs.Prelude.{Err}
+use Rattle.text.specs.declared.Line.{Line}
+use Rattle.text.specs.declared.LineError.TheVariants.{Short, Wrong}
+use Rattle.text.specs.Line.{newline, index_of, starts, has_end, line_of}
 use Rattle.text.proofs.Lines.{not_short, not-wrong}
 use Rattle.text.proofs.Search.{Free, end-inside, starts-split}
 use Rattle.header.specs.Header.{ascii_from, ascii, curve_text}
-use Rattle.header.specs.Opening.{is_text, curve_line, curve_of}
+use Rattle.header.specs.Opening.{is_text, curve_line}
 use Rattle.header.proofs.Ends.{ended, Ends, ends_at, seam-end, seam-inside, seam-front, seam-length}
-
--- the number that a line's curve is read as
-abbrev pub curve_code : Curve → ℕ
-curve_code Linear = 0
-curve_code Cubic = 1
-
-pub code-curve : (c : Curve) → curve_of (curve_code c) ≡ c
-code-curve Linear = refl
-code-curve Cubic = refl
 
 abbrev pub curve_words : Curve → List ℕ
 curve_words c = ascii "curve=" ++ curve_text c
@@ -37,21 +30,23 @@ same-is key l e =
     starts-split key l s ∙ rw (drop_of_length-le l {i = length key} (omega arith)) (append-nil key)
 
 -- ---- read
-pub read-curve : (l : List ℕ) (v n : ℕ) → curve_line l ≡ L.Number v n → Ends l (curve_words (curve_of v)) n
+pub read-curve : (l : List ℕ) (v : Curve) (n : ℕ) → curve_line l ≡ line_of v n → Ends l (curve_words v) n
 unfolding curve_line
 read-curve l v n e =
     by (has_end l) (is_text (curve_words Linear) (take (index_of newline l) l)) (is_text (curve_words Cubic) (take (index_of newline l) l)) refl refl refl e
   where
     by : (a b c : Bool) → has_end l ≡ a → is_text (curve_words Linear) (take (index_of newline l) l) ≡ b → is_text (curve_words Cubic) (take (index_of newline l) l) ≡ c
-        → cond a (cond b (L.Number 0 (index_of newline l + 1)) (cond c (L.Number 1 (index_of newline l + 1)) L.Wrong)) L.Short ≡ L.Number v n → Ends l (curve_words (curve_of v)) n
+        → cond a (cond b (line_of Linear (index_of newline l + 1)) (cond c (line_of Cubic (index_of newline l + 1)) (Err Wrong))) (Err Short) ≡ line_of v n → Ends l (curve_words v) n
     by false b c s p q e = absurd (not_short e)
     by true true c s p q e =
-        let is : 0 ≡ v = cc in
-        let end : index_of newline l + 1 ≡ n = cc in
+        let same : ◌≡◌ {A = Line Curve} (record { value = Linear; length = index_of newline l + 1 }) (record { value = v; length = n }) = cc in
+        let is : Linear ≡ v = ap (λ (x : Line Curve). x.value) same in
+        let end : index_of newline l + 1 ≡ n = ap (λ (x : Line Curve). x.length) same in
         rw (← is, ← end) (ends_at l (curve_words Linear) (end-inside l s) (same-is (curve_words Linear) _ p))
     by true false true s p q e =
-        let is : 1 ≡ v = cc in
-        let end : index_of newline l + 1 ≡ n = cc in
+        let same : ◌≡◌ {A = Line Curve} (record { value = Cubic; length = index_of newline l + 1 }) (record { value = v; length = n }) = cc in
+        let is : Cubic ≡ v = ap (λ (x : Line Curve). x.value) same in
+        let end : index_of newline l + 1 ≡ n = ap (λ (x : Line Curve). x.length) same in
         rw (← is, ← end) (ends_at l (curve_words Cubic) (end-inside l s) (same-is (curve_words Cubic) _ q))
     by true false false s p q e = absurd (not-wrong e)
 
@@ -61,13 +56,13 @@ unfolding ascii_from index_of
 curve-free Linear = refl
 curve-free Cubic = refl
 
-pub written-curve : (c : Curve) (rest : List ℕ) → curve_line (ended (curve_words c) ++ rest) ≡ L.Number (curve_code c) (length (ended (curve_words c)))
+pub written-curve : (c : Curve) (rest : List ℕ) → curve_line (ended (curve_words c) ++ rest) ≡ line_of c (length (ended (curve_words c)))
 unfolding curve_line
 written-curve c rest =
     rw (seam-inside (curve_words c) rest (curve-free c), seam-end (curve_words c) rest (curve-free c), seam-front (curve_words c) rest (curve-free c), seam-length (curve_words c)) (words c)
   where
     words : (c : Curve)
-        → cond (is_text (curve_words Linear) (curve_words c)) (L.Number 0 (length (ended (curve_words c))))
-        (cond (is_text (curve_words Cubic) (curve_words c)) (L.Number 1 (length (ended (curve_words c)))) L.Wrong) ≡ L.Number (curve_code c) (length (ended (curve_words c)))
+        → cond (is_text (curve_words Linear) (curve_words c)) (line_of Linear (length (ended (curve_words c))))
+        (cond (is_text (curve_words Cubic) (curve_words c)) (line_of Cubic (length (ended (curve_words c)))) (Err Wrong)) ≡ line_of c (length (ended (curve_words c)))
     words Linear = unfold ascii_from starts in refl
     words Cubic = unfold ascii_from starts in refl

@@ -12,9 +12,11 @@ use lib.Seq.{take-append-add, take-take}
 use Rattle.sheet.specs.Limits.{points_most, levels_most, layers_most, step_most}
 use Rattle.sheet.specs.Sheet.{sheet_of, layers}
 use Rattle.sheet.proofs.Flat.{flat-shape}
-use Rattle.text.specs.declared.Line.TheVariants as L
+use Rattle.std.specs.Prelude.{Err}
+use Rattle.sheet.specs.declared.Curve.{Curve}
+use Rattle.text.specs.declared.LineError.TheVariants.{Short}
 use Rattle.text.specs.Text.{padded}
-use Rattle.text.specs.Line.{newline, index_of, starts, has_end, line_at}
+use Rattle.text.specs.Line.{newline, index_of, starts, has_end, line_of, line_at}
 use Rattle.text.proofs.Lines.{written, short-take, number-take}
 use Rattle.text.proofs.Search.{before-take, before-le, has_end_lem, no_end_lem}
 use Rattle.header.specs.declared.Header.{Header}
@@ -51,10 +53,10 @@ module _ (m : ℕ) (l : List ℕ) where
   unfolding curve_line has_end
   curve-same i k = simp (end_kept i k, front_kept i k, lt-ltb (index_of newline l) (length (take m l)) (inside-kept i k), lt-ltb (index_of newline l) (length l) i)
 
-  curve-kept : (v n : ℕ) → curve_line l ≡ L.Number v n → n ≤ m → curve_line (take m l) ≡ L.Number v n
+  curve-kept : (v : Curve) (n : ℕ) → curve_line l ≡ line_of v n → n ≤ m → curve_line (take m l) ≡ line_of v n
   curve-kept v n e h = let r = read-curve l v n e in curve-same (omega arith) (omega arith) ∙ e
 
-  curve-lost : m ≤ index_of newline l → curve_line (take m l) ≡ L.Short
+  curve-lost : m ≤ index_of newline l → curve_line (take m l) ≡ Err Short
   unfolding curve_line
   curve-lost h = rw (end-lost h)
 
@@ -84,7 +86,7 @@ module _ (bs : List ℕ) (n : ℕ) where
   Lost o = o ≡ O.not_opened (refusal 5 0 0)
 
   module _ (after : Opening → Opening) (same : Lost (after (O.not_opened (refusal 5 0 0)))) where
-    line-turn : (number : ℕ) (key : List ℕ) (low high at v k : ℕ) (go : ℕ → ℕ → Opening) → line_at key low high (drop at bs) ≡ L.Number v k → at ≤ n
+    line-turn : (number : ℕ) (key : List ℕ) (low high at v k : ℕ) (go : ℕ → ℕ → Opening) → line_at key low high (drop at bs) ≡ line_of v k → at ≤ n
         → (at + k ≤ n → Lost (after (go v k))) → Lost (after (taking number (line_at key low high (drop at left)) go))
     line-turn number key low high at v k go e l rest =
         rw (drop-take at n bs)
@@ -177,11 +179,11 @@ module _ (bs : List ℕ) (n : ℕ) where
     unfolding opening_curve
     curve-cut l =
         let line = drop at₄ bs in
-        let r = read-curve line s.curve s.n₄ s.curve-line in
+        let r = read-curve line h.curve s.n₄ s.curve-line in
         rw (drop-take at₄ n bs)
         (elim (dec_lt n at₅) [
           | yes y ↦ rw (curve-lost (n - at₄) line (omega (arith, r.end_is)))
-          | no y ↦ rw (curve-kept (n - at₄) line s.curve s.n₄ s.curve-line (omega arith), ← s.curve-is) (step_cut (omega arith))
+          | no y ↦ rw (curve-kept (n - at₄) line h.curve s.n₄ s.curve-line (omega arith)) (step_cut (omega arith))
         ])
 
     levels-cut : at₃ ≤ n → Lost (after (opening_levels left h.shape.rows h.shape.cols at₃))

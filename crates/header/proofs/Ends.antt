@@ -7,9 +7,8 @@ use native.Mathlib.Numerals.{add-one}
 use native.Mathlib.Omega.{arith}
 use lib.ListN.{length, take, drop, length-append, length-take, take-append-drop}
 use lib.Seq.{take-suc, take-append_seam, append_snoc, drop-drop, drop-append_seam, take-nil}
-use Rattle.text.specs.declared.Line.TheVariants as L
 use Rattle.text.specs.Decimal.{decimal}
-use Rattle.text.specs.Line.{newline, index_of, starts, has_end, line_at, line_text}
+use Rattle.text.specs.Line.{newline, index_of, starts, has_end, line_of, line_at, line_text}
 use Rattle.text.proofs.Lines.{Written, written}
 use Rattle.text.proofs.Search.{Free, found, has_end_lem, before-seam, starts-append, starts-split}
 
@@ -35,7 +34,7 @@ ends_at l t h e =
     }
 
 -- a line of a key and a number that is read
-pub ends-number : (key : List ℕ) (low high : ℕ) (l : List ℕ) (v n : ℕ) → line_at key low high l ≡ L.Number v n → Ends l (key ++ decimal v) n
+pub ends-number : (key : List ℕ) (low high : ℕ) (l : List ℕ) (v n : ℕ) → line_at key low high l ≡ line_of v n → Ends l (key ++ decimal v) n
 ends-number key low high l v n e =
     let w : Written key low high l v n = written key low high l v n e in
     record {

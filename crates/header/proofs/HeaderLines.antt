@@ -14,15 +14,14 @@ use Rattle.sheet.specs.Limits.{points_most, levels_most, layers_most, step_most}
 use Rattle.sheet.specs.Sheet.{sheet_of, layers}
 use Rattle.sheet.proofs.Flat.{flat-shape}
 use Rattle.integers.proofs.Bools.{choice}
-use Rattle.text.specs.declared.Line.TheVariants as L
 use Rattle.text.specs.Text.{padded}
-use Rattle.text.specs.Line.{newline, index_of, starts, line_at}
+use Rattle.text.specs.Line.{newline, index_of, starts, line_of, line_at}
 use Rattle.text.proofs.Search.{has_end_lem}
 use Rattle.header.specs.declared.Header.{Header}
 use Rattle.header.specs.Refusals.{refusal}
 use Rattle.header.specs.Header.{cell_bytes, ascii, planes_of, cells_of}
 use Rattle.header.specs.Losses.{closed}
-use Rattle.header.specs.Opening.{Opening, not_opened, opened, limits, curve_line, curve_of, opening_cells, opening_told, opening_losses, opening_planes, opening_step, opening_curve, opening_levels, opening_cols, opening_rows, opening}
+use Rattle.header.specs.Opening.{Opening, not_opened, opened, limits, curve_line, opening_cells, opening_told, opening_losses, opening_planes, opening_step, opening_curve, opening_levels, opening_cols, opening_rows, opening}
 use Rattle.header.proofs.Ends.{starts-front}
 use Rattle.header.proofs.Turns.{NumbersLine, turn, turn-numbers}
 
@@ -37,13 +36,11 @@ pub record FirstLines (bs : List ℕ) (h : Header) (at : ℕ) : Type 0 where
   pub n₆ : ℕ
   -- no line names a depth: it is a sheet by itself
   pub flat : h.shape.depth ≡ 1
-  pub rows-line : line_at (ascii "rows=") 1 points_most bs ≡ L.Number h.shape.rows n₁
-  pub cols-line : line_at (ascii "cols=") 1 (points_most / h.shape.rows) (drop n₁ bs) ≡ L.Number h.shape.cols n₂
-  pub levels-line : line_at (ascii "levels=") 0 levels_most (drop (n₁ + n₂) bs) ≡ L.Number h.shape.levels n₃
-  pub curve : ℕ
-  pub curve-line : curve_line (drop (n₁ + n₂ + n₃) bs) ≡ L.Number curve n₄
-  pub curve-is : h.curve ≡ curve_of curve
-  pub step_line : line_at (ascii "step=") 0 step_most (drop (n₁ + n₂ + n₃ + n₄) bs) ≡ L.Number h.step n₅
+  pub rows-line : line_at (ascii "rows=") 1 points_most bs ≡ line_of h.shape.rows n₁
+  pub cols-line : line_at (ascii "cols=") 1 (points_most / h.shape.rows) (drop n₁ bs) ≡ line_of h.shape.cols n₂
+  pub levels-line : line_at (ascii "levels=") 0 levels_most (drop (n₁ + n₂) bs) ≡ line_of h.shape.levels n₃
+  pub curve-line : curve_line (drop (n₁ + n₂ + n₃) bs) ≡ line_of h.curve n₄
+  pub step_line : line_at (ascii "step=") 0 step_most (drop (n₁ + n₂ + n₃ + n₄) bs) ≡ line_of h.step n₅
   pub counts : List ℕ
   pub planes-line : NumbersLine (ascii "planes=") (limits h.shape) (drop (n₁ + n₂ + n₃ + n₄ + n₅) bs) counts
   pub planes-end : n₆ ≡ index_of newline (drop (n₁ + n₂ + n₃ + n₄ + n₅) bs) + 1
@@ -55,7 +52,7 @@ pub record FirstLines (bs : List ℕ) (h : Header) (at : ℕ) : Type 0 where
 pub record CellsLine (bs : List ℕ) (h : Header) (at long : ℕ) : Type 0 where
   pub n : ℕ
   pub total : ℕ
-  pub line : line_at (ascii "cells=") h.cells h.cells (drop at bs) ≡ L.Number total n
+  pub line : line_at (ascii "cells=") h.cells h.cells (drop at bs) ≡ line_of total n
   pub long_is : long ≡ at + n
   pub enough : length bs ≤ long + cell_bytes * h.cells
 
@@ -97,10 +94,10 @@ module _ (bs : List ℕ) where
       turn Firsts 2 (line_at (ascii "cols=") 1 (points_most / rows) (drop n₁ bs)) (λ cols n. opening_levels bs rows cols (n₁ + n)) cut (refused-first 5 2 0) (λ cols n₂ e₂.
       turn Firsts 3 (line_at (ascii "levels=") 0 levels_most (drop (n₁ + n₂) bs)) (λ levels n. opening_curve bs (sheet_of rows cols levels) (n₁ + n₂ + n)) cut (refused-first 5 3 0) (λ levels n₃ e₃.
       let sh = sheet_of rows cols levels in
-      turn Firsts 4 (curve_line (drop (n₁ + n₂ + n₃) bs)) (λ v n. opening_step bs sh (curve_of v) (n₁ + n₂ + n₃ + n)) cut (refused-first 5 4 0) (λ v n₄ e₄.
-      turn Firsts 5 (line_at (ascii "step=") 0 step_most (drop (n₁ + n₂ + n₃ + n₄) bs)) (λ step n. opening_planes bs sh (curve_of v) step (n₁ + n₂ + n₃ + n₄ + n)) cut (refused-first 5 5 0) (λ step n₅ e₅.
+      turn Firsts 4 (curve_line (drop (n₁ + n₂ + n₃) bs)) (λ curve n. opening_step bs sh curve (n₁ + n₂ + n₃ + n)) cut (refused-first 5 4 0) (λ curve n₄ e₄.
+      turn Firsts 5 (line_at (ascii "step=") 0 step_most (drop (n₁ + n₂ + n₃ + n₄) bs)) (λ step n. opening_planes bs sh curve step (n₁ + n₂ + n₃ + n₄ + n)) cut (refused-first 5 5 0) (λ step n₅ e₅.
       let at = n₁ + n₂ + n₃ + n₄ + n₅ in
-      turn-numbers Firsts 6 (ascii "planes=") (limits sh) (drop at bs) (λ counts n. opened (headed sh (curve_of v) step (padded layers_most counts)) none (at + n)) cut (refused-first 5 6 0) (λ counts e₆ _.
+      turn-numbers Firsts 6 (ascii "planes=") (limits sh) (drop at bs) (λ counts n. opened (headed sh curve step (padded layers_most counts)) none (at + n)) cut (refused-first 5 6 0) (λ counts e₆ _.
       record {
         n₁ = n₁;
         n₂ = n₂;
@@ -112,9 +109,7 @@ module _ (bs : List ℕ) where
         rows-line = e₁;
         cols-line = e₂;
         levels-line = e₃;
-        curve = v;
         curve-line = e₄;
-        curve-is = refl;
         step_line = e₅;
         counts = counts;
         planes-line = e₆;
@@ -178,7 +173,6 @@ rows_of bs h at s =
       s.planes-line.numbers-are,
       ← s.planes-end,
       ← s.planes-are,
-      ← s.curve-is,
       ← s.cells_are,
       ← s.end_is,
     )

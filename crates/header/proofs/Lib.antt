@@ -7,6 +7,7 @@ pub mod Counts
 pub mod Ends
 pub mod CurveLine
 pub mod Turns
+pub mod Firsts
 pub mod HeaderLines
 pub mod Opens
 pub mod OpenedSize

@@ -118,7 +118,7 @@ module _ (bs : List ℕ) (h : Header) (at : ℕ) (s : FirstLines bs h at) where
       let f₁ = front-first (ends-number (ascii "rows=") 1 points_most _ _ _ s.rows-line) in
       let f₂ = front-next f₁ (ends-number (ascii "cols=") 1 (points_most / h.shape.rows) _ _ _ s.cols-line) in
       let f₃ = front-next f₂ (ends-number (ascii "levels=") 0 levels_most _ _ _ s.levels-line) in
-      let f₄ = front-next f₃ (rw (← s.curve-is) at (read-curve _ _ _ s.curve-line)) in
+      let f₄ = front-next f₃ (read-curve _ _ _ s.curve-line) in
       let f₅ = front-next f₄ (ends-number (ascii "step=") 0 step_most _ _ _ s.step_line) in
       let f₆ = front-next f₅ (rw (← s.planes-end) at (read-numbers (ascii "planes=") _ _ s.counts s.planes-line)) in
       rw (counts-listed, s.end_is) f₆

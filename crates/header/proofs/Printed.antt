@@ -25,7 +25,7 @@ use Rattle.header.proofs.WellFormed.{WellFormed, right-yes, one-sheet, layers-fe
 use Rattle.header.proofs.Laid.{LossesFit}
 use Rattle.header.proofs.Counts.{counts-written}
 use Rattle.header.proofs.Ends.{ended, seam-end, seam-inside, seam-front, seam-length, rest-next}
-use Rattle.header.proofs.CurveLine.{curve_words, curve_code, code-curve, written-curve}
+use Rattle.header.proofs.CurveLine.{curve_words, written-curve}
 use Rattle.header.proofs.Turns.{NumbersLine}
 use Rattle.header.proofs.HeaderLines.{FirstLines, CellsLine, old, measured, HeaderLines, opening_of}
 
@@ -119,9 +119,7 @@ module _ (h : Header) (r : WellFormed h) (full : length h.planes ≡ layers_most
           rows-line = ap (line_at (ascii "rows=") 1 points_most) b₁ ∙ read-written (ascii "rows=") 1 points_most sh.rows _ (unfold ascii_from index_of in refl) sizes.tall (rows-small sizes);
           cols-line = ap (line_at (ascii "cols=") 1 (points_most / sh.rows)) b₂ ∙ read-written (ascii "cols=") 1 (points_most / sh.rows) sh.cols _ (unfold ascii_from index_of in refl) sizes.wide wide;
           levels-line = ap (line_at (ascii "levels=") 0 levels_most) b₃ ∙ read-written (ascii "levels=") 0 levels_most sh.levels _ (unfold ascii_from index_of in refl) (omega arith) sizes.shallow;
-          curve = curve_code h.curve;
           curve-line = rw b₄ (written-curve h.curve _);
-          curve-is = sym (code-curve h.curve);
           step_line = ap (line_at (ascii "step=") 0 step_most) b₅ ∙ read-written (ascii "step=") 0 step_most h.step _ (unfold ascii_from index_of in refl) (omega arith) r.step;
           counts = counts;
           planes-line = numbers-read (ascii "planes=") (limits sh) counts free counts-read _ rest b₆;

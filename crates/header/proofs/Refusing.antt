@@ -1,13 +1,11 @@
 -- What opening answers: line by line, it is a refusal 5, 6 or 7 with a blank header and the length 0, or it accepts. And what a call that opens a card makes of the code's
 -- answer: each variant but the first is a refusal, and beside the first the header is right.
 use mathlib.Core.Bool.{true}
-use mathlib.Core.List.{List, [], ◌∷◌}
+use mathlib.Core.List.{List}
 use mathlib.Core.Option.{Option, none, some}
 use mathlib.Core.Path.{◌≡◌, refl, sym, ap, ◌∙◌}
 use Prim.Native.Nat.{ℕ, ◌+◌, ◌*◌, ◌/◌, ◌≤◌}
 use native.Mathlib.Omega.{arith}
-use denote.Enum.Declared.{tag_of}
-use types.Run.{OneOf, miss}
 use lib.Dec.{ltb, eqb}
 use borrow.Author.Tests.{eqb-true, eqb-false, ne_eqb}
 use lib.ListN.{length, take, drop, replicate, length-replicate}
@@ -28,13 +26,12 @@ use Rattle.header.specs.declared.Refusal.TheVariants as R
 use Rattle.header.specs.Refusals.{refusal, details_of}
 use Rattle.header.specs.Header.{cell_bytes, ascii, planes_of}
 use Rattle.header.specs.Losses.{closed, told, losses_most}
-use Rattle.header.specs.Opening.{Opening, not_opened, opened, as_opening, well_formed, limits, curve_line, curve_of, after_first, opening_cells, opening_told, opening_losses, opening_planes, opening_step, opening_curve, opening_levels, opening_cols, opening_rows, opening}
+use Rattle.header.specs.Opening.{Opening, not_opened, opened, well_formed, limits, curve_line, after_first, opening_cells, opening_told, opening_losses, opening_planes, opening_step, opening_curve, opening_levels, opening_cols, opening_rows, opening}
 use Rattle.header.proofs.WellFormed.{right-yes, right_by}
 use Rattle.header.proofs.Laid.{fit-few}
 use Rattle.header.proofs.Turns.{turn, turn-numbers}
 use Rattle.header.proofs.HeaderLines.{headed, Accepts, first-of}
 use Rattle.header.proofs.Opens.{opened-right, first-right, first_ends}
-use Rattle.header.specs.contracts.Refusal.{the_type}
 
 pub data Answer : Opening → Type 0 where
   accepts : (h : Header) (losses : Option (List ℕ)) (long : ℕ) → Answer (opened h losses long)
@@ -73,7 +70,7 @@ module _ (bs : List ℕ) where
 
   curve-answer : (sh : Shape) (at : ℕ) → After (opening_curve bs sh at)
   unfolding opening_curve
-  curve-answer sh at = turn After 4 (curve_line (drop at bs)) (λ v n. opening_step bs sh (curve_of v) (at + n)) cut (wrong 4 (omega arith) (omega arith)) (λ v n _. step-answer sh (curve_of v) (at + n))
+  curve-answer sh at = turn After 4 (curve_line (drop at bs)) (λ curve n. opening_step bs sh curve (at + n)) cut (wrong 4 (omega arith) (omega arith)) (λ curve n _. step-answer sh curve (at + n))
 
   levels-answer : (rows cols at : ℕ) → After (opening_levels bs rows cols at)
   unfolding opening_levels
@@ -119,54 +116,45 @@ module _ (bs table : List ℕ) (e : table ≡ putting (replicate losses_most 0) 
     told-room = omega (arith, is, ap length table_is, padded-room losses_most (told (opening bs).losses))
 
 -- ---- the code's answer
--- every variant but the first is a refusal
-abbrev refusals : List ℕ
-refusals = 1 ∷ 2 ∷ 3 ∷ 4 ∷ 5 ∷ 6 ∷ 7 ∷ 8 ∷ 9 ∷ 10 ∷ 11 ∷ 12 ∷ 13 ∷ []
+-- every refusal has a number
+pub refusing : (r : Refusal) → (details_of r).number ≡ 0 → ⊥
+refusing R.BadSize e = omega arith
+refusing R.BadSettings e = omega arith
+refusing R.BadLengths e = omega arith
+refusing (R.BadSample row col) e = omega arith
+refusing R.HeaderCut e = omega arith
+refusing (R.BadLine line) e = omega arith
+refusing R.TrailingBytes e = omega arith
+refusing (R.BadPlane layer) e = omega arith
+refusing (R.BadPlan place) e = omega arith
+refusing R.LimitBelowStep e = omega arith
+refusing R.BadCoefficient e = omega arith
+refusing R.ShortPage e = omega arith
+refusing R.SizesDiffer e = omega arith
 
-pub refusing : (r : Refusal) → OneOf refusals (tag_of the_type r) → (details_of r).number ≡ 0 → ⊥
-refusing R.Accepted k e = miss refusals 0 tt k
-refusing R.BadSize k e = omega arith
-refusing R.BadSettings k e = omega arith
-refusing R.BadLengths k e = omega arith
-refusing (R.BadSample row col) k e = omega arith
-refusing R.HeaderCut k e = omega arith
-refusing (R.BadLine line) k e = omega arith
-refusing R.TrailingBytes k e = omega arith
-refusing (R.BadPlane layer) k e = omega arith
-refusing (R.BadPlan place) k e = omega arith
-refusing R.LimitBelowStep k e = omega arith
-refusing R.BadCoefficient k e = omega arith
-refusing R.ShortPage k e = omega arith
-refusing R.SizesDiffer k e = omega arith
-
--- and beside the first the header is right
-module _ (bs : List ℕ) (o : Opened) (losses : Option (List ℕ)) (e : as_opening o losses ≡ opening bs) (yes : o.refusal ≡ R.Accepted) where
+-- what is opened has a header that is right
+module _ (bs : List ℕ) (o : Opened) (losses : Option (List ℕ)) (e : opened o.header losses o.length ≡ opening bs) where
   pub opened-accepts : Accepts (opening bs)
-  opened-accepts = ap (λ (x : Opening). x.refused.number) (sym e) ∙ ap (λ (r : Refusal). (details_of r).number) yes
+  opened-accepts = ap (λ (x : Opening). x.refused.number) (sym e)
 
   pub header-right : well_formed o.header ≡ true
   header-right = ap (λ (x : Opening). well_formed x.header) e ∙ (opened-right bs opened-accepts).right_is
 
 -- the first six lines as the code reads them: they hand on to what stands behind them, or they are refused
-module _ (bs : List ℕ) (o : Opened) (e : as_opening o none ≡ opening_rows bs) where
-  module _ (yes : o.refusal ≡ R.Accepted) where
-    first-accepts : Accepts (opening_rows bs)
-    first-accepts = ap (λ (x : Opening). x.refused.number) (sym e) ∙ ap (λ (r : Refusal). (details_of r).number) yes
+module _ (bs : List ℕ) (o : Opened) (e : opened o.header none o.length ≡ opening_rows bs) where
+  first-accepts : Accepts (opening_rows bs)
+  first-accepts = ap (λ (x : Opening). x.refused.number) (sym e)
 
-    pub rows_right : (well_formed o.header ≡ true) × (o.length ≤ length bs)
-    rows_right =
-        let s = first-of bs first-accepts in
-        let h = (opening_rows bs).header in
-        (ap (λ (x : Opening). well_formed x.header) e ∙ right_by h (first-right bs h (opening_rows bs).long s), omega (arith, ap (λ (x : Opening). x.long) e, first_ends bs h (opening_rows bs).long s))
+  pub rows_right : (well_formed o.header ≡ true) × (o.length ≤ length bs)
+  rows_right =
+      let s = first-of bs first-accepts in
+      let h = (opening_rows bs).header in
+      (ap (λ (x : Opening). well_formed x.header) e ∙ right_by h (first-right bs h (opening_rows bs).long s), omega (arith, ap (λ (x : Opening). x.long) e, first_ends bs h (opening_rows bs).long s))
 
-    pub rows_then : opening bs ≡ opening_losses bs o.header o.length
-    unfolding opening
-    rows_then = rw (← e, yes)
+  pub rows_then : opening bs ≡ opening_losses bs o.header o.length
+  unfolding opening
+  rows_then = rw (← e)
 
-  module _ (no : (details_of o.refusal).number ≡ 0 → ⊥) where
-    refused-is : opening bs ≡ as_opening o none
-    unfolding opening
-    refused-is = cond_no (eqb (opening_rows bs).refused.number 0) _ _ (ne_eqb _ 0 (λ z. no (ap (λ (x : Opening). x.refused.number) e ∙ z))) ∙ sym e
-
-    pub rows-refused : opening bs ≡ not_opened (details_of o.refusal)
-    rows-refused = refused-blank (answers bs) (λ z. no (ap (λ (x : Opening). x.refused.number) (sym refused-is) ∙ z)) ∙ ap (λ (x : Opening). not_opened x.refused) refused-is
+pub rows-refused : (bs : List ℕ) (r : Refusal) → not_opened (details_of r) ≡ opening_rows bs → opening bs ≡ not_opened (details_of r)
+unfolding opening
+rows-refused bs r e = cond_no (eqb (opening_rows bs).refused.number 0) _ _ (ne_eqb _ 0 (λ z. refusing r (ap (λ (x : Opening). x.refused.number) e ∙ z))) ∙ sym e

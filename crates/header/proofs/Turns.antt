@@ -5,9 +5,11 @@ use mathlib.Core.Option.{Option, none, some}
 use mathlib.Core.Path.{◌≡◌, refl}
 use Prim.Native.Nat.{ℕ, ◌+◌, ◌<◌}
 use lib.ListN.{length, take, drop}
+use Rattle.std.specs.Prelude as R
 use Rattle.text.specs.declared.Line.{Line}
-use Rattle.text.specs.declared.Line.TheVariants as L
-use Rattle.text.specs.Line.{newline, index_of, starts, has_end}
+use Rattle.text.specs.declared.LineError.{LineError}
+use Rattle.text.specs.declared.LineError.TheVariants.{Short, Wrong}
+use Rattle.text.specs.Line.{newline, index_of, starts, has_end, line_of}
 use Rattle.text.specs.Joined.{numbers_in}
 use Rattle.text.proofs.Search.{end-inside}
 use Rattle.header.specs.Refusals.{refusal}
@@ -20,10 +22,10 @@ pub record NumbersLine (key most l ns : List ℕ) : Type 0 where
   pub numbers-are : numbers_in most (drop (length key) (take (index_of newline l) l)) ≡ some ns
 
 module _ (P : Opening → Type 0) where
-  pub turn : (n : ℕ) (line : Line) (go : ℕ → ℕ → Opening) → P (not_opened (refusal 5 0 0)) → P (not_opened (refusal 6 n 0)) → ((v len : ℕ) → line ≡ L.Number v len → P (go v len)) → P (taking n line go)
-  turn n L.Short go short wrong rest = short
-  turn n L.Wrong go short wrong rest = wrong
-  turn n (L.Number v len) go short wrong rest = rest v len refl
+  pub turn : {A : Type 0} (n : ℕ) (line : R.Result (Line A) LineError) (go : A → ℕ → Opening) → P (not_opened (refusal 5 0 0)) → P (not_opened (refusal 6 n 0)) → ((v : A) (len : ℕ) → line ≡ line_of v len → P (go v len)) → P (taking n line go)
+  turn n (R.Err Short) go short wrong rest = short
+  turn n (R.Err Wrong) go short wrong rest = wrong
+  turn n (R.Ok l) go short wrong rest = rest l.value l.length refl
 
   pub turn-numbers : (n : ℕ) (key most l : List ℕ) (go : List ℕ → ℕ → Opening) → P (not_opened (refusal 5 0 0)) → P (not_opened (refusal 6 n 0))
       → ((ns : List ℕ) → NumbersLine key most l ns → P (go ns (index_of newline l + 1))) → P (taking_numbers n key most l go)

@@ -19,11 +19,12 @@ use Rattle.sheet.proofs.Lists.{tabulate-same}
 use Rattle.integers.proofs.Bools.{and_left, and_right, and_both, by, choice}
 use Rattle.header.specs.declared.Header.{Header}
 use Rattle.header.specs.Header.{places_most, planes_of, plane_cells, cells_of}
-use Rattle.header.specs.Workings.{cells_at, spans_of, most_by, limits_by}
+use Rattle.std.specs.Prelude.{is_none}
+use Rattle.header.specs.Workings.{cells_at, spans_of, most_by, limits_by, place_in}
 use Rattle.header.specs.Plan.{first_over}
 use Rattle.header.specs.Opening.{counts_fit, well_formed, planes_most}
 use Rattle.header.proofs.Cells.{cells-there, cells-past, span-listed}
-use Rattle.header.proofs.Over.{none_over, over_none}
+use Rattle.header.proofs.Over.{none_over, over_none, over-le, over-listed}
 
 -- ---- the most planes of a layer
 module _ (sh : Shape) (k : ℕ) where
@@ -58,6 +59,17 @@ module _ (sh : Shape) (k : ℕ) where
 pub limits-by : (sh : Shape) → accepted sh ≡ true → limits_by (spans_of sh) ≡ tabulate layers_most (planes_most sh)
 unfolding limits_by
 limits-by sh ok = tabulate-same layers_most _ _ (λ k l. rw (span-listed sh k l, most-by sh k ok))
+
+-- the counts that are over no limit, as the code finds them
+module _ (sh : Shape) (planes : List ℕ) (ok : accepted sh ≡ true) where
+  pub fits_by : is_none (place_in layers_most (first_over (λ k. get_or (limits_by (spans_of sh)) k 0) (λ k. get_or planes k 0))) ≡ counts_fit sh planes
+  unfolding counts_fit
+  fits_by =
+      let n : ℕ = first_over (planes_most sh) (λ k. get_or planes k 0) in
+      rw (ok, limits-by sh ok, over-listed (planes_most sh) (λ k. get_or planes k 0))
+      (by (ltb n layers_most)
+      (λ t. rw (t, ne_eqb n layers_most (λ e. omega (arith, ltb-true n layers_most t))))
+      (λ t. rw (t, eq-eqb n layers_most (omega (arith, ltb-false n layers_most t, over-le (planes_most sh) (λ k. get_or planes k 0))))))
 
 -- ---- right counts
 pub record CountsFit (sh : Shape) (planes : List ℕ) : Type 0 where

@@ -5,7 +5,7 @@
 --     opening_rows, opening_cols, opening_levels, opening_curve, opening_step, opening_planes: the first six lines, and where line 7 begins;
 --     opening_losses, opening_cells: the line of losses, where there is one, and the cells, which looks behind the last cell and ends it.
 -- A definition can name only those above it, so both stand from the last line to the first.
-use Rattle.std.specs.Prelude.{Bool, cond, not, ◌&&◌, List, ◌++◌, ℕ, ◌+◌, ◌*◌, ◌/◌, ltb, leb, eqb, length, get_or, take, drop, replicate}
+use Rattle.std.specs.Prelude.{Bool, cond, not, ◌&&◌, List, ◌++◌, ℕ, ◌+◌, ◌*◌, ◌/◌, ltb, leb, eqb, length, get_or, take, drop, replicate, Result, Ok, Err}
 use Rattle.std.proofs.Math.Option.{Option, none, some}
 use Rattle.sheet.specs.declared.Shape.{Shape}
 use Rattle.sheet.specs.declared.Curve.{Curve}
@@ -14,13 +14,15 @@ use Rattle.sheet.specs.Limits.{points_most, levels_most, layers_most, step_most}
 use Rattle.sheet.specs.Lists.{tabulate}
 use Rattle.sheet.specs.Sheet.{accepted, sheet_of, layers, layer_size}
 use Rattle.text.specs.declared.Line.{Line}
-use Rattle.text.specs.declared.Line.TheVariants as L
+use Rattle.text.specs.declared.LineError.{LineError}
+use Rattle.text.specs.declared.LineError.TheVariants.{Short, Wrong}
 use Rattle.text.specs.Text.{padded}
-use Rattle.text.specs.Line.{newline, index_of, starts, has_end, line_at}
+use Rattle.text.specs.Line.{newline, index_of, starts, has_end, line_of, line_at}
 use Rattle.text.specs.Joined.{numbers_in}
 use Rattle.header.specs.declared.Header.{Header}
 use Rattle.header.specs.declared.Details.{Details}
 use Rattle.header.specs.declared.Opened.{Opened}
+use Rattle.header.specs.declared.Refusal.{Refusal}
 use Rattle.header.specs.Refusals.{refusal, details_of}
 use Rattle.header.specs.Header.{places_most, cell_bytes, ascii, curve_text, planes_of, cells_of}
 use Rattle.header.specs.Losses.{closed}
@@ -51,30 +53,28 @@ abbrev pub opened : Header → Option (List ℕ) → ℕ → Opening
 opened h losses long = record { refused = refusal 0 0 0; header = h; losses = losses; long = long }
 
 -- the code's answer as such a record, with the losses that stand in the lent table
-abbrev pub as_opening : Opened → Option (List ℕ) → Opening
-as_opening o losses = record { refused = details_of o.refusal; header = o.header; losses = losses; long = o.length }
+abbrev pub as_opening : Result Opened Refusal → Option (List ℕ) → Opening
+as_opening (Ok o) losses = opened o.header losses o.length
+as_opening (Err r) losses = not_opened (details_of r)
 
 -- ---- line n in turn: refusal 5 where it does not end, 6 where it is wrong (which line)
-abbrev pub taking : ℕ → Line → (ℕ → ℕ → Opening) → Opening
-taking n L.Short go = not_opened (refusal 5 0 0)
-taking n L.Wrong go = not_opened (refusal 6 n 0)
-taking n (L.Number v long) go = go v long
+abbrev pub taking : {A : Type 0} → ℕ → Result (Line A) LineError → (A → ℕ → Opening) → Opening
+taking n (Err Short) go = not_opened (refusal 5 0 0)
+taking n (Err Wrong) go = not_opened (refusal 6 n 0)
+taking n (Ok l) go = go l.value l.length
 
 -- is a text just this key?
 abbrev pub is_text : List ℕ → List ℕ → Bool
 is_text key l = starts key l && eqb (length key) (length l)
 
--- ---- line 4: 0 for linear and 1 for cubic
-unfoldable pub curve_line : List ℕ → Line
+-- ---- line 4
+unfoldable pub curve_line : List ℕ → Result (Line Curve) LineError
 curve_line l =
     cond (has_end l)
-    (cond (is_text (ascii "curve=" ++ curve_text Linear) (take (index_of newline l) l)) (L.Number 0 (index_of newline l + 1))
-    (cond (is_text (ascii "curve=" ++ curve_text Cubic) (take (index_of newline l) l)) (L.Number 1 (index_of newline l + 1))
-    L.Wrong))
-    L.Short
-
-abbrev pub curve_of : ℕ → Curve
-curve_of v = cond (eqb v 0) Linear Cubic
+    (cond (is_text (ascii "curve=" ++ curve_text Linear) (take (index_of newline l) l)) (line_of Linear (index_of newline l + 1))
+    (cond (is_text (ascii "curve=" ++ curve_text Cubic) (take (index_of newline l) l)) (line_of Cubic (index_of newline l + 1))
+    (Err Wrong)))
+    (Err Short)
 
 -- ---- line 6: one count for each layer, each at most its limit
 -- the most planes that layer k may have: none where it is empty, and none past the last
@@ -110,7 +110,7 @@ unfoldable pub opening_step : List ℕ → Shape → Curve → ℕ → Opening
 opening_step bs sh curve at = taking 5 (line_at (ascii "step=") 0 step_most (drop at bs)) (λ step n. opening_planes bs sh curve step (at + n))
 
 unfoldable pub opening_curve : List ℕ → Shape → ℕ → Opening
-opening_curve bs sh at = taking 4 (curve_line (drop at bs)) (λ v n. opening_step bs sh (curve_of v) (at + n))
+opening_curve bs sh at = taking 4 (curve_line (drop at bs)) (λ curve n. opening_step bs sh curve (at + n))
 
 unfoldable pub opening_levels : List ℕ → ℕ → ℕ → ℕ → Opening
 opening_levels bs rows cols at =

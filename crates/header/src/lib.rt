@@ -37,9 +37,8 @@ pub const MOST_LOSSES: usize = MOST_LAYERS * MOST_PLACES as usize;
 pub const MOST_TEXT: usize = 512;
 
 // Why a call is refused; `details_of` gives the number and the details.
-#[derive(Clone, Copy)]
+#[derive(Clone, Copy, PartialEq, Eq, Debug)]
 pub enum Refusal {
-    Accepted,
     BadSize,
     BadSettings,
     BadLengths,
@@ -56,7 +55,7 @@ pub enum Refusal {
 }
 
 // A refusal by number, with two details.
-#[derive(Clone, Copy)]
+#[derive(Clone, Copy, PartialEq, Eq, Debug)]
 pub struct Details {
     pub number: u64,
     pub first: u64,
@@ -64,7 +63,7 @@ pub struct Details {
 }
 
 // Planes loaded from the top, for each layer; 0 past the last.
-#[derive(Clone, Copy)]
+#[derive(Clone, Copy, PartialEq, Eq, Debug)]
 pub struct Plan {
     pub planes: [u64; MOST_LAYERS],
 }
@@ -79,19 +78,11 @@ pub struct Header {
     pub cells: u64,
 }
 
-// A card's header, how many losses its line tells, 0 for an old card, and how many bytes it has; blank beside a refusal.
+// A card's header, how many losses its line tells, 0 for an old card, and how many bytes it has.
 #[derive(Clone, Copy)]
 pub struct Opened {
-    pub refusal: Refusal,
     pub header: Header,
     pub losses: usize,
-    pub length: usize,
-}
-
-// How a header ends: its bytes, or why it is refused.
-#[derive(Clone, Copy)]
-pub(crate) struct HeaderEnd {
-    pub refusal: Refusal,
     pub length: usize,
 }
 
@@ -100,11 +91,6 @@ pub fn details_of(refusal: Refusal) -> Details
     ensures { result ≡ R.details_of refusal }
 {
     match refusal {
-        Refusal::Accepted => Details {
-            number: 0,
-            first: 0,
-            second: 0,
-        },
         Refusal::BadSize => Details {
             number: 1,
             first: 0,
@@ -182,11 +168,8 @@ impl Plan {
             return self;
         }
         let mut next = self;
-        let n = next.planes[layer];
-        if u64::MAX <= n {
-            return self;
-        }
-        next.planes[layer] = n + 1;
+        let n = self.planes[layer];
+        next.planes[layer] = n.saturating_add(1);
         next
     }
 }

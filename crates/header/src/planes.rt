@@ -1,5 +1,6 @@
 // The planes that a header names: their cells, and how many each layer may have.
 ghost use Rattle.std.specs.Prelude.{◌≡◌, ℕ, ◌<◌, ◌≤◌, get_or};
+ghost use Rattle.sheet.specs.Limits.{layers_most};
 ghost use Rattle.header.specs.Header as Hd;
 ghost use Rattle.header.specs.Workings as W;
 ghost use Rattle.header.specs.Plan as P;
@@ -19,11 +20,7 @@ pub fn plane_cells(shape: Shape, layer: usize) -> u64
 pub(crate) fn spans_of(shape: Shape) -> [u64; MOST_LAYERS]
     ensures { result ≡ W.spans_of shape }
 {
-    let mut spans = [0u64; MOST_LAYERS];
-    for k in 0..MOST_LAYERS {
-        spans[k] = plane_cells(shape, k);
-    }
-    spans
+    std::array::from_fn(|k| plane_cells(shape, k))
 }
 
 // The cells of all the planes that the counts name, where one plane of each layer spans so many.
@@ -32,54 +29,45 @@ pub(crate) fn cells_of(spans: [u64; MOST_LAYERS], planes: [u64; MOST_LAYERS]) ->
     ensures { result ≡ W.cells_by spans planes }
 {
     let mut cells: u64 = 0;
-    for k in 0..MOST_LAYERS {
-        cells += spans[k] * planes[k];
+    for (span, count) in spans.iter().zip(&planes) {
+        cells += span * count;
     }
     cells
 }
 
 // The most planes that a layer may have: none where it is empty, so that a plane of it spans no cells.
+#[tactic(auto, unfolding(crate::specs::Workings::most_by))]
 fn planes_most(span: u64) -> u64
     ensures { result ≡ W.most_by span }
 {
-    if span == 0 {
-        return 0;
-    }
-    MOST_PLACES
+    if span == 0 { 0 } else { MOST_PLACES }
 }
 
 // The most planes that each layer may have.
 pub(crate) fn limits(spans: [u64; MOST_LAYERS]) -> [u64; MOST_LAYERS]
     ensures { result ≡ W.limits_by spans }
 {
-    let mut most = [0u64; MOST_LAYERS];
-    for k in 0..MOST_LAYERS {
-        most[k] = planes_most(spans[k]);
-    }
-    most
+    spans.map(planes_most)
 }
 
-// The first place where a plan loads more than the limit there, or MOST_LAYERS.
-pub fn first_over(limit: [u64; MOST_LAYERS], plan: [u64; MOST_LAYERS]) -> usize
-    ensures { result ≡ P.first_over (λ k. get_or limit k 0) (λ k. get_or plan k 0) }
+// The first place where a plan loads more than the limit there.
+#[tactic(auto, using(crate::proofs::Over::over_at, crate::proofs::Over::over_nowhere))]
+pub fn first_over(limit: [u64; MOST_LAYERS], plan: [u64; MOST_LAYERS]) -> Option<usize>
+    ensures { result ≡ W.place_in layers_most (P.first_over (λ k. get_or limit k 0) (λ k. get_or plan k 0)) }
 {
-    for k in 0..MOST_LAYERS {
-        if limit[k] < plan[k] {
-            return k;
-        }
-    }
-    MOST_LAYERS
+    limit
+        .iter()
+        .zip(&plan)
+        .position(|(most, loaded)| most < loaded)
 }
 
 // Are these a shape that is accepted and counts that a header of it may have? `spans` are the cells of one plane of each layer.
+#[tactic(auto, unfolding(crate::specs::Opening::counts_fit))]
 fn counts_fit(shape: Shape, spans: [u64; MOST_LAYERS], planes: [u64; MOST_LAYERS]) -> bool
     requires { spans ≡ W.spans_of shape }
     ensures { result ≡ O.counts_fit shape planes }
 {
-    if !sheet::accepted(shape) {
-        return false;
-    }
-    first_over(limits(spans), planes) == MOST_LAYERS
+    sheet::accepted(shape) && first_over(limits(spans), planes).is_none()
 }
 
 // The cells of all the planes that the counts name; 0 where no header has such a shape or such counts.
@@ -88,23 +76,18 @@ pub fn total_cells(shape: Shape, planes: [u64; MOST_LAYERS]) -> u64
 {
     let spans = spans_of(shape);
     if counts_fit(shape, spans, planes) {
-        return cells_of(spans, planes);
+        cells_of(spans, planes)
+    } else {
+        0
     }
-    0
 }
 
 // Is this a header that opening can give?
 pub fn is_well_formed(header: Header) -> bool
     ensures { result ≡ O.well_formed header }
 {
-    if MOST_STEP < header.step {
-        return false;
-    }
-    let shape = header.shape;
-    let planes = header.planes;
-    let spans = spans_of(shape);
-    if !counts_fit(shape, spans, planes) {
-        return false;
-    }
-    header.cells == cells_of(spans, planes)
+    let spans = spans_of(header.shape);
+    header.step <= MOST_STEP
+        && counts_fit(header.shape, spans, header.planes)
+        && header.cells == cells_of(spans, header.planes)
 }

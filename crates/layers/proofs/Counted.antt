@@ -2,12 +2,13 @@
 -- layer that is read by what it adds is read by these.
 use mathlib.Core.Path.{◌≡◌, refl, sym, ap, ◌∙◌}
 use mathlib.Core.Bool.{true}
-use mathlib.Core.List.{List}
+use mathlib.Core.List.{List, map}
 use Prim.Native.Nat.{ℕ, ◌^◌, ◌<◌}
 use native.Mathlib.Omega.{arith}
 use lib.IntN.{ℤ, pos, ◌+ℤ◌}
-use lib.ListN.{length}
+use lib.ListN.{length, set}
 use lib.Seq.{ext_get_or}
+use Rattle.std.proofs.lemmas.List.{map-set, set-get_or}
 use Rattle.integers.specs.Distance.{Within}
 use Rattle.integers.proofs.Bools.{cond-ap}
 use Rattle.integers.proofs.Diff.{#, lit, ◌⊞◌}
@@ -73,3 +74,7 @@ module _ (sh : Shape) (ok : accepted sh ≡ true) (qs : List ℤ) (long : length
       counted-own more p hp
       ∙ ap (λ (z : ℤ). at qs p +ℤ z) (none (own_layer sh p) (own_below (sheet-proper sh ok Linear) p hp))
       ∙ eq-by (# (at qs p) ⊞ lit 0) (# (at qs p)) (omega arith))
+
+-- coefficients with what is added to each, set at a place to what they hold there
+pub set-added : (more : ℤ) (qs : List ℤ) (p : ℕ) → map (λ q. q +ℤ more) qs ≡ set (map (λ q. q +ℤ more) qs) p (at qs p +ℤ more)
+set-added more qs p = sym (sym (map-set (λ q. q +ℤ more) qs p (at qs p)) ∙ ap (map (λ q. q +ℤ more)) (set-get_or qs p (pos 0)))

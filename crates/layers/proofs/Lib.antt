@@ -21,6 +21,7 @@ pub mod Neighbours
 pub mod Results
 pub mod Prefix
 pub mod Answers
+pub mod SideBySide
 pub mod Proper
 pub mod Ends
 pub mod AtPoint

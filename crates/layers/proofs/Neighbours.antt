@@ -26,10 +26,6 @@ use Rattle.layers.proofs.Spots.{Spot, spot_of}
 use Rattle.layers.proofs.Rows.{grid-names}
 use Rattle.layers.proofs.SheetLaw.{across-odd, down-odd, between-odd, looks-at}
 
--- crossings are the same where their numbers are
-pub same-crossing : (v w : Crossing) → v.start ≡ w.start → v.stride ≡ w.stride → v.count ≡ w.count → v.place ≡ w.place → v ≡ w
-same-crossing v w a b c d = λ t. record { start = a t; stride = b t; count = c t; place = d t }
-
 -- a line is the same where its start is
 module _ {start start' : ℕ} (e : start ≡ start') where
   same_start : {vs : List ℤ} {stride n t s : ℕ} → OnLine vs start' stride n t s → OnLine vs start stride n t s
@@ -120,9 +116,10 @@ module _ {sh : Shape} {k z r c : ℕ} {g : Grid} (point : AtPoint sh k g z r c) 
   pub nothing-predicted : g.direction ≡ Anchor → pos 0 ≡ Pr
   nothing-predicted e = ap (λ (d : Direction). predicted sh curve d (spacing sh k) vs z r c) (sym e ∙ named.0)
 
-  pub row-predicted : g.direction ≡ Across → line curve vs ((z * sh.rows + r) * sh.cols) 1 sh.cols c g.spacing ≡ Pr
-  row-predicted e =
-      ap (line curve vs ((z * sh.rows + r) * sh.cols) 1 sh.cols c) named.1
+  pub row-predicted : g.direction ≡ Across → {y : ℤ} → y ≡ line curve vs ((z * sh.rows + r) * sh.cols) 1 sh.cols c g.spacing → y ≡ Pr
+  row-predicted e y-is =
+      y-is
+      ∙ ap (line curve vs ((z * sh.rows + r) * sh.cols) 1 sh.cols c) named.1
       ∙ same_line (omega arith) curve vs 1 sh.cols c (spacing sh k)
       ∙ ap (λ (d : Direction). predicted sh curve d (spacing sh k) vs z r c) (sym e ∙ named.0)
 
@@ -133,9 +130,10 @@ module _ {sh : Shape} {k z r c : ℕ} {g : Grid} (point : AtPoint sh k g z r c) 
     crossed-here : crosses g.direction ≡ true → crosses (direction sh k) ≡ true
     crossed-here y = ap crosses (sym named.0) ∙ y
 
-    pub column-predicted : crosses g.direction ≡ true → line curve vs (x.start + c) x.stride x.count x.place g.spacing ≡ Pr
-    column-predicted y =
-        ap₂ (λ (x : Crossing) (s : ℕ). line curve vs (x.start + c) x.stride x.count x.place s) crossing_is named.1
+    pub column-predicted : crosses g.direction ≡ true → {y : ℤ} → y ≡ line curve vs (x.start + c) x.stride x.count x.place g.spacing → y ≡ Pr
+    column-predicted y y-is =
+        y-is
+        ∙ ap₂ (λ (x : Crossing) (s : ℕ). line curve vs (x.start + c) x.stride x.count x.place s) crossing_is named.1
         ∙ crossing-predicted sh curve vs (spacing sh k) z r c (direction sh k) (crossed-here y)
 
     pub column-line : crosses g.direction ≡ true → length vs ≡ points sh → Below value_most sh curve k vs

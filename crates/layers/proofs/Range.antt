@@ -59,14 +59,6 @@ module _ {sh : Shape} {k z r c : ℕ} (here : Spot sh k z r c) (curve : Curve) (
           → Within (carry sh curve k m) (predicted sh curve (direction sh k) (spacing sh k) vs (p / sh.cols / sh.rows) (p / sh.cols % sh.rows) (p % sh.cols))
       go p hp i = unfold predicted_at in (sheet-within sh here.shape curve k here.layer m vs vs low p hp i)
 
-  -- from values written
-  pub predicted-near : Below written_most sh curve k vs → Within predicted_most (predicted sh curve (direction sh k) (spacing sh k) vs z r c)
-  predicted-near low = within_more (written-carried (curve_of sh curve k)) (predicted-within written_most low)
-
-  -- from any values
-  pub predicted-low : Below value_most sh curve k vs → Within (2 * value_most) (predicted sh curve (direction sh k) (spacing sh k) vs z r c)
-  predicted-low low = within_more (value-carried (curve_of sh curve k)) (predicted-within value_most low)
-
 -- ---- samples that are accepted
 module _ {sh : Shape} {e : ℕ} {xs : List ℤ} (ok : Samples sh e xs) (curve : Curve) where
   -- at every stage a value written is within the step of its sample

@@ -1,9 +1,8 @@
 -- The lengths of slices and the range of samples (docs/CARD.md, "Refusals", writing).
-use Rattle.std.specs.Prelude.{Bool, cond, ◌&&◌, List, [], ◌∷◌, ℕ, suc, ◌/◌, ◌%◌, ltb, eqb, ℤ, pos, neg_ℤ, length}
+use Rattle.std.specs.Prelude.{Bool, cond, ◌&&◌, List, [], ◌∷◌, ℕ, suc, ◌/◌, ◌%◌, ltb, eqb, ℤ, pos, neg_ℤ, length, Option, None, Some}
 use Rattle.std.specs.Int.Signed.{le_z}
 use Rattle.sheet.specs.declared.Shape.{Shape}
-use Rattle.layers.specs.declared.Scan.{Scan}
-use Rattle.layers.specs.declared.Scan.TheVariants.{Clear, OutAt}
+use Rattle.layers.specs.declared.Place.{Place}
 use Rattle.sheet.specs.Limits.{sample_most}
 use Rattle.sheet.specs.Sheet.{points}
 
@@ -20,6 +19,6 @@ unfoldable pub good_prefix : List ℤ → ℕ
 good_prefix [] = 0
 good_prefix (x ∷ xs) = cond (in_range x) (suc (good_prefix xs)) 0
 
--- the first one out of range in row order, of a sheet of so many columns
-unfoldable pub scanned : ℕ → List ℤ → Scan
-scanned cols xs = cond (ltb (good_prefix xs) (length xs)) (OutAt (good_prefix xs / cols) (good_prefix xs % cols)) Clear
+-- where the first one out of range stands in row order, in a sheet of so many columns
+unfoldable pub scanned : ℕ → List ℤ → Option Place
+scanned cols xs = cond (ltb (good_prefix xs) (length xs)) (Some (record { row = good_prefix xs / cols; col = good_prefix xs % cols })) None

@@ -8,6 +8,7 @@ ghost use Rattle.layers.specs.Workings.Calls as W;
 mod prediction;
 mod quantizing;
 mod rebuilding;
+mod walking;
 
 pub use prediction::width_of;
 pub use quantizing::quantize;
@@ -24,27 +25,23 @@ pub struct Crossing {
     pub place: usize,
 }
 
-// Whether every sample is in range, or where the first one stands that is not.
+// Where a sample stands.
 #[derive(Clone, Copy)]
-pub enum Scan {
-    Clear,
-    OutAt { row: usize, col: usize },
+pub struct Place {
+    pub row: usize,
+    pub col: usize,
 }
 
-// What quantizing answers.
+// Why quantizing refuses: a shape, a step or a length is not right, or the first sample out of range stands there.
 #[derive(Clone, Copy)]
-pub enum Quantized {
-    Done,
-    Refused,
-    OutOfRange { row: usize, col: usize },
+pub enum QuantizeError {
+    BadLengths,
+    OutOfRange(Place),
 }
 
 // Can a sheet be written or rebuilt so: a shape and a step that are accepted?
 pub(crate) fn settled(shape: Shape, step: u64) -> bool
     ensures { result ≡ W.settled shape step }
 {
-    if sheet::accepted(shape) {
-        return step <= MOST_STEP;
-    }
-    false
+    sheet::accepted(shape) && step <= MOST_STEP
 }

@@ -1,9 +1,10 @@
-// Samples to coefficients and values, layer by layer, in place; rows as in rebuilding.
-ghost use Rattle.std.specs.Prelude.{◌≡◌, true, ◌+◌, ◌*◌, ◌<◌, ◌≤◌, length};
+// Samples to coefficients and values, layer by layer, in place.
+ghost use Rattle.std.specs.Prelude.{◌≡◌, ◌*◌, List, ℕ, ℤ, ◌<◌, ◌≤◌, length};
 ghost use Rattle.integers.specs.Distance.{Within};
 ghost use Rattle.sheet.specs.Limits.{step_most, sample_most};
-ghost use Rattle.sheet.specs.declared.Curve as D;
-ghost use Rattle.sheet.specs.declared.Direction.TheVariants.{Anchor, Across};
+ghost use Rattle.std.specs.Borrow.{GName};
+ghost use Rattle.std.proofs.Common.{rules};
+ghost use Rattle.sheet.specs.Lists.{at};
 ghost use Rattle.sheet.specs.Sheet as S;
 ghost use Rattle.layers.specs.Prediction as P;
 ghost use Rattle.layers.specs.Layering as Y;
@@ -11,31 +12,29 @@ ghost use Rattle.layers.specs.Samples as C;
 ghost use Rattle.layers.specs.Workings.Calls as W;
 ghost use Rattle.layers.specs.Workings.Loops as L;
 
-use crate::prediction::{crossing, predict_along, value, width};
-use crate::{Quantized, Scan, settled};
-use sheet::{Curve, Direction, Grid, Shape, grid_of, laid, layer_count};
+use crate::prediction::width;
+use crate::walking::{Coefficients, walk};
+use crate::{Place, QuantizeError, settled};
+use sheet::{Curve, Shape, laid, layer_count};
 
 const MOST_SAMPLE: i32 = 1048575;
 
 fn in_range(sample: i32) -> bool
     ensures { result ≡ C.in_range sample }
 {
-    if -MOST_SAMPLE <= sample {
-        return sample <= MOST_SAMPLE;
-    }
-    false
+    -MOST_SAMPLE <= sample && sample <= MOST_SAMPLE
 }
 
-// The first sample out of range, in row order.
-fn scan_samples(samples: &[i32], rows: usize, cols: usize) -> Scan
+// Where the first sample out of range stands, in row order. Two loops that a label leaves: the customer names this form.
+fn scan_samples(samples: &[i32], rows: usize, cols: usize) -> Option<Place>
     requires { length samples.now ≡ rows * cols }
     ensures { result ≡ C.scanned cols samples.now }
 {
-    let mut found = Scan::Clear;
+    let mut found = None;
     'rows: for row in 0..rows {
         for col in 0..cols {
             if !in_range(samples[row * cols + col]) {
-                found = Scan::OutAt { row, col };
+                found = Some(Place { row, col });
                 break 'rows;
             }
         }
@@ -51,218 +50,33 @@ fn coefficient(sample: i32, y: i64, step: u64) -> i32
     integers::floor_div(sample as i64 - y + step as i64, width(step)) as i32
 }
 
-// One row of anchors, in place: they are predicted as 0.
-fn quantize_anchors(
-    samples: &[i32],
-    shape: Shape,
+// A point's coefficient is made from its sample, and is kept.
+#[derive(Drop)]
+struct Quantizing<'a> {
+    samples: &'a [i32],
+    coefficients: &'a mut [i32],
     step: u64,
-    g: Grid,
-    sheet: usize,
-    row: usize,
-    coefficients: &mut [i32],
-    values: &mut [i64],
-)
-    requires samples { L.Samples shape step samples.now × L.AtRow shape g.layer g sheet row × (g.direction ≡ Anchor) }
-    requires coefficients_len { (length coefficients.old ≡ S.points shape) × (length values.old ≡ S.points shape) }
-    ensures { (curve : D.Curve) → (coefficients.new ≡ L.part_by shape curve g.layer (L.in_row shape (sheet * shape.rows + row)) (Y.makes step samples.now) values.old coefficients.old) × (values.new ≡ L.part_by shape curve g.layer (L.in_row shape (sheet * shape.rows + row)) (Y.writes step samples.now) values.old values.old) }
-{
-    let cols = shape.cols;
-    let mut col = g.col;
-    while col < cols {
-        let rows = shape.rows;
-        let start = (sheet * rows + row) * cols;
-        let p = start + col;
-        let q = coefficient(samples[p], 0, step);
-        let v = value(0, q, step);
-        coefficients[p] = q;
-        values[p] = v;
-        col += g.right;
-    }
 }
 
-// One row of a layer across, in place: the row itself is the line of its points.
-fn quantize_along(
-    samples: &[i32],
-    shape: Shape,
-    curve: Curve,
-    step: u64,
-    g: Grid,
-    sheet: usize,
-    row: usize,
-    coefficients: &mut [i32],
-    values: &mut [i64],
-)
-    requires samples { L.Samples shape step samples.now × L.AtRow shape g.layer g sheet row × (g.direction ≡ Across) }
-    requires coefficients_len { (length coefficients.old ≡ S.points shape) × (length values.old ≡ S.points shape) × L.Below L.written_most shape curve g.layer values.old }
-    ensures { (coefficients.new ≡ L.part_by shape curve g.layer (L.in_row shape (sheet * shape.rows + row)) (Y.makes step samples.now) values.old coefficients.old) × (values.new ≡ L.part_by shape curve g.layer (L.in_row shape (sheet * shape.rows + row)) (Y.writes step samples.now) values.old values.old) }
-{
-    let cols = shape.cols;
-    let s = g.spacing;
-    let mut col = g.col;
-    while col < cols {
-        let rows = shape.rows;
-        let start = (sheet * rows + row) * cols;
-        let p = start + col;
-        let y = predict_along(values, curve, start, 1, cols, col, s);
-        let q = coefficient(samples[p], y, step);
-        let v = value(y, q, step);
-        coefficients[p] = q;
-        values[p] = v;
-        col += g.right;
-    }
-}
+impl<'a> Coefficients for Quantizing<'a> {
+    ghost Given = { List ℤ × ℕ × GName };
 
-// One row of a layer down or between, in place: a line crosses it at each of its points.
-fn quantize_crossed(
-    samples: &[i32],
-    shape: Shape,
-    curve: Curve,
-    step: u64,
-    g: Grid,
-    sheet: usize,
-    row: usize,
-    coefficients: &mut [i32],
-    values: &mut [i64],
-)
-    requires samples { L.Samples shape step samples.now × L.AtRow shape g.layer g sheet row × (L.crosses g.direction ≡ true) }
-    requires coefficients_len { (length coefficients.old ≡ S.points shape) × (length values.old ≡ S.points shape) × L.Below L.written_most shape curve g.layer values.old }
-    ensures { (coefficients.new ≡ L.part_by shape curve g.layer (L.in_row shape (sheet * shape.rows + row)) (Y.makes step samples.now) values.old coefficients.old) × (values.new ≡ L.part_by shape curve g.layer (L.in_row shape (sheet * shape.rows + row)) (Y.writes step samples.now) values.old values.old) }
-{
-    let cols = shape.cols;
-    let s = g.spacing;
-    let dir = g.direction;
-    let x = crossing(shape, dir, sheet, row);
-    let mut col = g.col;
-    while col < cols {
-        let rows = shape.rows;
-        let start = (sheet * rows + row) * cols;
-        let p = start + col;
-        let y = predict_along(values, curve, x.start + col, x.stride, x.count, x.place, s);
-        let q = coefficient(samples[p], y, step);
-        let v = value(y, q, step);
-        coefficients[p] = q;
-        values[p] = v;
-        col += g.right;
-    }
-}
+    ghost given = { λ s. (s.samples.now, s.step, s.coefficients.ghost_name) };
 
-// One row of a layer's coefficients and values, in place; g is the layer's grid.
-fn quantize_row(
-    samples: &[i32],
-    shape: Shape,
-    curve: Curve,
-    step: u64,
-    g: Grid,
-    sheet: usize,
-    row: usize,
-    coefficients: &mut [i32],
-    values: &mut [i64],
-)
-    requires samples { L.Samples shape step samples.now × L.AtRow shape g.layer g sheet row }
-    requires coefficients_len { (length coefficients.old ≡ S.points shape) × (length values.old ≡ S.points shape) × L.Below L.written_most shape curve g.layer values.old }
-    ensures { (coefficients.new ≡ L.part_by shape curve g.layer (L.in_row shape (sheet * shape.rows + row)) (Y.makes step samples.now) values.old coefficients.old) × (values.new ≡ L.part_by shape curve g.layer (L.in_row shape (sheet * shape.rows + row)) (Y.writes step samples.now) values.old values.old) }
-{
-    let dir = g.direction;
-    match dir {
-        Direction::Anchor => quantize_anchors(
-            samples,
-            shape,
-            step,
-            g,
-            sheet,
-            row,
-            coefficients,
-            values,
-        ),
-        Direction::Across => quantize_along(
-            samples,
-            shape,
-            curve,
-            step,
-            g,
-            sheet,
-            row,
-            coefficients,
-            values,
-        ),
-        Direction::Down => quantize_crossed(
-            samples,
-            shape,
-            curve,
-            step,
-            g,
-            sheet,
-            row,
-            coefficients,
-            values,
-        ),
-        Direction::Between => quantize_crossed(
-            samples,
-            shape,
-            curve,
-            step,
-            g,
-            sheet,
-            row,
-            coefficients,
-            values,
-        ),
-    }
-}
+    ghost held = { λ s. s.coefficients.now };
 
-// One sheet of a layer's coefficients and values, in place.
-fn quantize_sheet(
-    samples: &[i32],
-    shape: Shape,
-    curve: Curve,
-    step: u64,
-    g: Grid,
-    sheet: usize,
-    coefficients: &mut [i32],
-    values: &mut [i64],
-)
-    requires samples { L.Samples shape step samples.now × L.AtSheet shape g.layer g sheet }
-    requires coefficients_len { (length coefficients.old ≡ S.points shape) × (length values.old ≡ S.points shape) × L.Below L.written_most shape curve g.layer values.old }
-    ensures { (coefficients.new ≡ L.part_by shape curve g.layer (L.in_sheet shape sheet) (Y.makes step samples.now) values.old coefficients.old) × (values.new ≡ L.part_by shape curve g.layer (L.in_sheet shape sheet) (Y.writes step samples.now) values.old values.old) }
-{
-    let rows = shape.rows;
-    let mut row = g.row;
-    while row < rows {
-        quantize_row(
-            samples,
-            shape,
-            curve,
-            step,
-            g,
-            sheet,
-            row,
-            coefficients,
-            values,
-        );
-        row += g.down;
-    }
-}
+    ghost makes = { λ g. Y.makes g.1 g.0 };
 
-// One layer of coefficients and values, in place.
-fn quantize_layer(
-    samples: &[i32],
-    shape: Shape,
-    curve: Curve,
-    step: u64,
-    layer: usize,
-    coefficients: &mut [i32],
-    values: &mut [i64],
-)
-    requires samples { L.Samples shape step samples.now × (layer < S.layers shape) }
-    requires coefficients_len { (length coefficients.old ≡ S.points shape) × (length values.old ≡ S.points shape) × L.Below L.written_most shape curve layer values.old }
-    ensures { (coefficients.new ≡ Y.layer_by (Y.layering shape curve) layer (Y.makes step samples.now) values.old coefficients.old) × (values.new ≡ Y.layer_by (Y.layering shape curve) layer (Y.writes step samples.now) values.old values.old) }
-{
-    let depth = shape.depth;
-    let g = grid_of(shape, layer);
-    let mut sheet = g.sheet;
-    while sheet < depth {
-        quantize_sheet(samples, shape, curve, step, g, sheet, coefficients, values);
-        sheet += g.deep;
+    ghost CanMake = { λ g p. (p < length g.0) × Within sample_most (at g.0 p) × (g.1 ≤ step_most) };
+
+    ghost most = { L.written_most };
+
+    ghost most_small = { Prim.search rules };
+
+    fn at(&mut self, y: i64, p: usize) -> i64 {
+        let q = coefficient(self.samples[p], y, self.step);
+        self.coefficients[p] = q;
+        i64::from(q)
     }
 }
 
@@ -279,8 +93,13 @@ fn quantize_layers(
     ensures { (coefficients.new ≡ Y.coefs (Y.layering shape curve) step samples.now) × (values.new ≡ Y.written (Y.layering shape curve) step samples.now) }
 {
     let layers = layer_count(shape);
+    let mut source = Quantizing {
+        samples,
+        coefficients,
+        step,
+    };
     for layer in 0..layers {
-        quantize_layer(samples, shape, curve, step, layer, coefficients, values);
+        walk(shape, curve, step, layer, &mut source, values);
     }
 }
 
@@ -292,30 +111,22 @@ pub fn quantize(
     step: u64,
     coefficients: &mut [i32],
     values: &mut [i64],
-) -> Quantized
+) -> Result<(), QuantizeError>
     ensures { (result ≡ (W.quantizing shape curve step samples.now coefficients.old values.old).answer) × (coefficients.new ≡ (W.quantizing shape curve step samples.now coefficients.old values.old).coefficients) × (values.new ≡ (W.quantizing shape curve step samples.now coefficients.old values.old).values) }
 {
     if !settled(shape, step) {
-        return Quantized::Refused;
+        return Err(QuantizeError::BadLengths);
     }
     let points = sheet::points(shape);
     if samples.len() != points {
-        return Quantized::Refused;
+        return Err(QuantizeError::BadLengths);
     }
-    if coefficients.len() != points {
-        return Quantized::Refused;
+    if coefficients.len() != points || values.len() != points {
+        return Err(QuantizeError::BadLengths);
     }
-    if values.len() != points {
-        return Quantized::Refused;
+    if let Some(place) = scan_samples(samples, shape.depth * shape.rows, shape.cols) {
+        return Err(QuantizeError::OutOfRange(place));
     }
-    let depth = shape.depth;
-    let rows = shape.rows;
-    let cols = shape.cols;
-    match scan_samples(samples, depth * rows, cols) {
-        Scan::OutAt { row, col } => Quantized::OutOfRange { row, col },
-        Scan::Clear => {
-            quantize_layers(samples, laid(shape), curve, step, coefficients, values);
-            Quantized::Done
-        }
-    }
+    quantize_layers(samples, laid(shape), curve, step, coefficients, values);
+    Ok(())
 }

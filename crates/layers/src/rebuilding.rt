@@ -1,236 +1,51 @@
-// Coefficients to values, layer by layer, in place. Where a row starts is worked out inside its loop, since the proof of a loop can speak only of
-// what the loop reads; the compiler takes it out.
-ghost use Rattle.std.specs.Prelude.{◌≡◌, true, ℕ, ◌+◌, ◌*◌, ◌^◌, ◌<◌, ◌≤◌, length};
-ghost use Rattle.integers.specs.Distance.{Within};
+// Coefficients to values, layer by layer, in place.
+ghost use Rattle.std.specs.Prelude.{FitsSigned, ◌≡◌, true, List, ℤ, ◌+ℤ◌, map, ℕ, ◌<◌, ◌≤◌, length};
 ghost use Rattle.sheet.specs.Limits.{step_most};
 ghost use Rattle.sheet.specs.Lists.{at};
-ghost use Rattle.sheet.specs.declared.Curve as D;
-ghost use Rattle.sheet.specs.declared.Direction.TheVariants.{Anchor, Across};
+ghost use Rattle.std.specs.Int.{w32};
+ghost use Rattle.std.proofs.Common.{rules};
 ghost use Rattle.sheet.specs.Sheet as S;
 ghost use Rattle.layers.specs.Layering as Y;
 ghost use Rattle.layers.specs.Workings.Calls as W;
 ghost use Rattle.layers.specs.Workings.Loops as L;
 
-use crate::prediction::{crossing, predict_along, value_with};
 use crate::settled;
-use sheet::{Curve, Direction, Grid, MOST_LAYERS, Shape, grid_of, laid, layer_count};
+use crate::walking::{Coefficients, walk};
+use sheet::{Curve, Direction, MOST_LAYERS, Shape, grid_of, laid, layer_count};
 
-// One row of anchors, in place: they are predicted as 0.
-fn rebuild_anchors(
-    coefficients: &[i32],
-    shape: Shape,
-    step: u64,
+// A point's coefficient is there already; the layer adds `more` to it.
+#[derive(Drop)]
+struct Rebuilding<'a> {
+    coefficients: &'a [i32],
     more: i32,
-    g: Grid,
-    sheet: usize,
-    row: usize,
-    values: &mut [i64],
-)
-    requires at_row { L.AtRow shape g.layer g sheet row × (step ≤ step_most) × (g.direction ≡ Anchor) }
-    requires coefficients_len { (length coefficients.now ≡ S.points shape) × (length values.old ≡ S.points shape) }
-    ensures { (curve : D.Curve) → values.new ≡ L.part_by shape curve g.layer (L.in_row shape (sheet * shape.rows + row)) (L.reads_with more step coefficients.now) values.old values.old }
-{
-    let cols = shape.cols;
-    let mut col = g.col;
-    while col < cols {
-        let rows = shape.rows;
-        let start = (sheet * rows + row) * cols;
-        let p = start + col;
-        let v = value_with(0, coefficients[p], more, step);
-        values[p] = v;
-        col += g.right;
+}
+
+impl<'a> Coefficients for Rebuilding<'a> {
+    ghost Given = { List ℤ × ℤ };
+
+    ghost given = { λ s. (s.coefficients.now, s.more) };
+
+    ghost held = { λ s. map (λ q. q +ℤ s.more) s.coefficients.now };
+
+    ghost makes = { λ g y p. at g.0 p +ℤ g.1 };
+
+    ghost CanMake = { λ g p. p < length g.0 };
+
+    ghost most = { L.value_most };
+
+    ghost most_small = { Prim.search rules };
+
+    fn at(&mut self, _y: i64, p: usize) -> i64 {
+        i64::from(self.coefficients[p]) + i64::from(self.more)
     }
 }
 
-// One row of a layer across, in place: the row itself is the line of its points.
-fn rebuild_along(
-    coefficients: &[i32],
-    shape: Shape,
-    curve: Curve,
-    step: u64,
-    more: i32,
-    g: Grid,
-    sheet: usize,
-    row: usize,
-    values: &mut [i64],
-)
-    requires at_row { L.AtRow shape g.layer g sheet row × (step ≤ step_most) × (g.direction ≡ Across) }
-    requires coefficients_len { (length coefficients.now ≡ S.points shape) × (length values.old ≡ S.points shape) × L.Below L.value_most shape curve g.layer values.old }
-    ensures { values.new ≡ L.part_by shape curve g.layer (L.in_row shape (sheet * shape.rows + row)) (L.reads_with more step coefficients.now) values.old values.old }
+// No effect: the proofs learn that an element of a slice is an i32 where it is read alone (of unsigned numbers they know it).
+fn are_i32(numbers: &[i32])
+    ensures { (p : ℕ) → p < length numbers.now → FitsSigned w32 (at numbers.now p) }
 {
-    let cols = shape.cols;
-    let s = g.spacing;
-    let mut col = g.col;
-    while col < cols {
-        let rows = shape.rows;
-        let start = (sheet * rows + row) * cols;
-        let p = start + col;
-        let y = predict_along(values, curve, start, 1, cols, col, s);
-        let v = value_with(y, coefficients[p], more, step);
-        values[p] = v;
-        col += g.right;
-    }
-}
-
-// One row of a layer down or between, in place: a line crosses it at each of its points.
-fn rebuild_crossed(
-    coefficients: &[i32],
-    shape: Shape,
-    curve: Curve,
-    step: u64,
-    more: i32,
-    g: Grid,
-    sheet: usize,
-    row: usize,
-    values: &mut [i64],
-)
-    requires at_row { L.AtRow shape g.layer g sheet row × (step ≤ step_most) × (L.crosses g.direction ≡ true) }
-    requires coefficients_len { (length coefficients.now ≡ S.points shape) × (length values.old ≡ S.points shape) × L.Below L.value_most shape curve g.layer values.old }
-    ensures { values.new ≡ L.part_by shape curve g.layer (L.in_row shape (sheet * shape.rows + row)) (L.reads_with more step coefficients.now) values.old values.old }
-{
-    let cols = shape.cols;
-    let s = g.spacing;
-    let dir = g.direction;
-    let x = crossing(shape, dir, sheet, row);
-    let mut col = g.col;
-    while col < cols {
-        let rows = shape.rows;
-        let start = (sheet * rows + row) * cols;
-        let p = start + col;
-        let y = predict_along(values, curve, x.start + col, x.stride, x.count, x.place, s);
-        let v = value_with(y, coefficients[p], more, step);
-        values[p] = v;
-        col += g.right;
-    }
-}
-
-// One row of a layer's values, in place; g is the layer's grid.
-fn rebuild_row(
-    coefficients: &[i32],
-    shape: Shape,
-    curve: Curve,
-    step: u64,
-    more: i32,
-    g: Grid,
-    sheet: usize,
-    row: usize,
-    values: &mut [i64],
-)
-    requires at_row { L.AtRow shape g.layer g sheet row × (step ≤ step_most) }
-    requires coefficients_len { (length coefficients.now ≡ S.points shape) × (length values.old ≡ S.points shape) × L.Below L.value_most shape curve g.layer values.old }
-    ensures { values.new ≡ L.part_by shape curve g.layer (L.in_row shape (sheet * shape.rows + row)) (L.reads_with more step coefficients.now) values.old values.old }
-{
-    let dir = g.direction;
-    match dir {
-        Direction::Anchor => rebuild_anchors(
-            coefficients,
-            shape,
-            step,
-            more,
-            g,
-            sheet,
-            row,
-            values,
-        ),
-        Direction::Across => rebuild_along(
-            coefficients,
-            shape,
-            curve,
-            step,
-            more,
-            g,
-            sheet,
-            row,
-            values,
-        ),
-        Direction::Down => rebuild_crossed(
-            coefficients,
-            shape,
-            curve,
-            step,
-            more,
-            g,
-            sheet,
-            row,
-            values,
-        ),
-        Direction::Between => rebuild_crossed(
-            coefficients,
-            shape,
-            curve,
-            step,
-            more,
-            g,
-            sheet,
-            row,
-            values,
-        ),
-    }
-}
-
-// One sheet of a layer's values, in place.
-fn rebuild_sheet(
-    coefficients: &[i32],
-    shape: Shape,
-    curve: Curve,
-    step: u64,
-    more: i32,
-    g: Grid,
-    sheet: usize,
-    values: &mut [i64],
-)
-    requires at_sheet { L.AtSheet shape g.layer g sheet × (step ≤ step_most) }
-    requires coefficients_len { (length coefficients.now ≡ S.points shape) × (length values.old ≡ S.points shape) × L.Below L.value_most shape curve g.layer values.old }
-    ensures { values.new ≡ L.part_by shape curve g.layer (L.in_sheet shape sheet) (L.reads_with more step coefficients.now) values.old values.old }
-{
-    let rows = shape.rows;
-    let mut row = g.row;
-    while row < rows {
-        rebuild_row(
-            coefficients,
-            shape,
-            curve,
-            step,
-            more,
-            g,
-            sheet,
-            row,
-            values,
-        );
-        row += g.down;
-    }
-}
-
-// One layer of values, in place.
-fn rebuild_layer(
-    coefficients: &[i32],
-    shape: Shape,
-    curve: Curve,
-    step: u64,
-    more: i32,
-    layer: usize,
-    values: &mut [i64],
-)
-    requires shape_value { (S.accepted shape ≡ true) × (step ≤ step_most) × (layer < S.layers shape) }
-    requires coefficients_len { (length coefficients.now ≡ S.points shape) × (length values.old ≡ S.points shape) × L.Below L.value_most shape curve layer values.old }
-    ensures { values.new ≡ Y.layer_by (Y.layering shape curve) layer (L.reads_with more step coefficients.now) values.old values.old }
-{
-    let depth = shape.depth;
-    let g = grid_of(shape, layer);
-    let mut sheet = g.sheet;
-    while sheet < depth {
-        rebuild_sheet(coefficients, shape, curve, step, more, g, sheet, values);
-        sheet += g.deep;
-    }
-}
-
-// No effect: reading an element tells the proofs that it is an i32.
-fn are_i32(coefficients: &[i32])
-    ensures { (p : ℕ) → p < length coefficients.now → Within (2 ^ 31) (at coefficients.now p) }
-{
-    let n = coefficients.len();
-    for p in 0..n {
-        let _q = coefficients[p];
+    for q in numbers {
+        let _q = *q;
     }
 }
 
@@ -242,13 +57,9 @@ fn laid_layer(shape: Shape, layer: usize) -> usize
     if shape.cols != 1 {
         return layer;
     }
-    let g = grid_of(shape, layer);
-    let dir = g.direction;
-    match dir {
-        Direction::Anchor => layer,
+    match grid_of(shape, layer).direction {
         Direction::Across => layer + 1,
-        Direction::Down => layer,
-        Direction::Between => layer,
+        Direction::Anchor | Direction::Down | Direction::Between => layer,
     }
 }
 
@@ -270,7 +81,11 @@ fn rebuild_layers(
     let layers = layer_count(shape);
     for layer in 0..layers {
         let own = laid_layer(shape, layer);
-        rebuild_layer(coefficients, row, curve, step, more[own], layer, values);
+        let mut source = Rebuilding {
+            coefficients,
+            more: more[own],
+        };
+        walk(row, curve, step, layer, &mut source, values);
     }
 }
 
@@ -289,10 +104,7 @@ pub fn rebuild(
         return false;
     }
     let points = sheet::points(shape);
-    if coefficients.len() != points {
-        return false;
-    }
-    if values.len() != points {
+    if coefficients.len() != points || values.len() != points {
         return false;
     }
     rebuild_layers(coefficients, shape, curve, step, more, values);

@@ -1,5 +1,5 @@
 -- The bits of half bytes, as the table has them: bit i of a plane is bit i % 4 of half i / 4, whose four numbers stand in the table at place p.
-use mathlib.Core.Path.{◌≡◌, ap, ◌∙◌}
+use mathlib.Core.Path.{◌≡◌, sym, ap, ◌∙◌}
 use mathlib.Core.List.{List}
 use Prim.Native.Nat.{ℕ, zero, suc, ◌+◌, ◌*◌, ◌/◌, ◌%◌, ◌<◌, ◌≤◌, ◌^◌}
 use native.Mathlib.Nat.{two-pow-succ}
@@ -11,7 +11,7 @@ use Rattle.sheet.proofs.Lists.{length-tabulate, get_or-tabulate, tabulate-same}
 use Rattle.header.specs.Header.{places_most}
 use Rattle.loading.specs.InBytes.{bit_at}
 use Rattle.loading.specs.Workings.Words.{half_at, half_bits, half_bit, halves, halved, added, words_with}
-use Rattle.loading.proofs.PlaneSums.{at_most, with-same}
+use Rattle.loading.proofs.PlaneSums.{at_most, with-run, with-same}
 
 -- ---- the halves of bytes
 module _ (bs : List ℕ) (from : ℕ) where
@@ -47,6 +47,18 @@ module _ (bs : List ℕ) (from : ℕ) where
 pub added-half : (table bs : List ℕ) (from h i : ℕ) → i < 4 → added table bs from (4 * h + i) ≡ get_or table (4 * half_at bs from h + i) 0
 unfolding added
 added-half table bs from h i l = let d : (4 * h + i) / 4 ≡ h = omega arith in let m : (4 * h + i) % 4 ≡ i = omega arith in rw (d, m)
+
+-- ---- bytes added half by half
+module _ (table bs ws : List ℕ) (from start : ℕ) where
+  -- half byte h more, whose number is x
+  pub half-more : (m h : ℕ) {x first : ℕ} {us vs : List ℕ} → us ≡ words_with ws start m 0 (added table bs from) → vs ≡ words_with us first 4 0 (λ i. get_or table (4 * x + i) 0)
+      → m ≡ 4 * h → first ≡ start + m → x ≡ half_at bs from h → vs ≡ words_with ws start (m + 4) 0 (added table bs from)
+  half-more m h {x} d e q there is =
+      let f : ℕ → ℕ = λ i. get_or table (4 * x + i) 0 in
+      e
+      ∙ (λ i. words_with (d i) (there i) 4 0 f)
+      ∙ with-run ws start m 4 0 (added table bs from) f
+      (λ i l. ap (λ (y : ℕ). get_or table (4 * y + i) 0) is ∙ sym (ap (λ (k : ℕ). added table bs from (k + i)) q ∙ added-half table bs from h i l))
 
 -- ---- the table
 -- for the place below

@@ -1,3 +1,4 @@
+pub mod Parts
 pub mod LayerPlanes
 pub mod CardBits
 pub mod Weights

@@ -2,39 +2,37 @@
 use mathlib.Core.Bool.{Bool, true, false, ◌&&◌}
 use mathlib.Core.List.{List}
 use mathlib.Core.Path.{◌≡◌, sym, ap, subst, ◌∙◌}
-use Prim.Native.Nat.{ℕ, suc, ◌+◌, ◌*◌, ◌-◌, ◌<◌, ◌≤◌}
-use native.Mathlib.Numerals.{add-one}
+use Prim.Native.Nat.{ℕ, ◌+◌, ◌*◌, ◌-◌, ◌<◌, ◌≤◌}
 use native.Mathlib.Omega.{arith}
-use borrow.Author.Tests.{lt-ltb, le-ltb, le-leb, lt-leb, leb-true, ne_eqb}
-use lib.Dec.{ltb, leb, eqb}
+use borrow.Author.Tests.{lt-ltb, le-ltb, ltb-true, ltb-false, le-leb, lt-leb, leb-true}
+use lib.Dec.{ltb, leb}
+use Rattle.std.specs.Prelude.{Some, None, Result, Ok, Err}
+use Rattle.header.specs.Workings.{place_in}
 use lib.IntN.{ℤ}
 use lib.ListN.{length}
 use Rattle.integers.proofs.Bools.{by, and_left, and_right, and-no-left, and-no-right}
 use Rattle.sheet.specs.declared.Shape.{Shape}
 use Rattle.layers.specs.Samples.{full}
 use Rattle.sheet.specs.Limits.{layers_most}
-use Rattle.sheet.specs.Sheet.{points, layers, layer_size}
+use Rattle.sheet.specs.Sheet.{points, layers}
 use Rattle.sheet.proofs.Lists.{length-tabulate}
 use Rattle.header.specs.declared.Header.{Header}
 use Rattle.header.specs.declared.Plan.{Plan}
-use Rattle.header.specs.declared.Refusal.{Refusal}
-use Rattle.header.specs.declared.Refusal.TheVariants as F
-use Rattle.header.specs.Refusals.{refusal, details_of}
+use Rattle.header.specs.Refusals.{refusal}
 use Rattle.header.specs.Header.{cell_bytes, planes_of, plane_cells}
-use Rattle.header.specs.Plan.{no_plan, loads, first_over}
+use Rattle.header.specs.Plan.{loads, first_over}
 use Rattle.header.specs.Opening.{well_formed}
 use Rattle.order.specs.CardOrder.{slots, cells_before, is_whole, whole, whole_plan}
 use Rattle.order.specs.Workings.{cells_before_in, whole_in}
-use Rattle.header.proofs.Over.{over_none, none_over}
+use Rattle.header.proofs.Over.{over_none, none_over, over-le}
 use Rattle.header.proofs.WellFormed.{right-yes, layers-few}
 use Rattle.order.proofs.Whole.{whole-fits, fits_whole, whole-most, counted-whole}
 use Rattle.packing.specs.Planes.{all_held}
-use Rattle.loading.specs.InBytes.{bit_at, fine_bits, fine, first_bad, coefs_read, coefs_plus, coefs_with}
+use Rattle.loading.specs.InBytes.{fine, first_bad, coefs_read, coefs_plus, coefs_with}
+use Rattle.loading.specs.declared.BadLayer.{BadLayer}
 use Rattle.loading.specs.Workings.Words.{AllThere, loaded_as}
-use Rattle.loading.specs.Workings.Calls.{Loading, as_loading, not_loaded, done, loadable, loading_whole, loading, all_whole, whole_loaded, there, adding}
-use Rattle.loading.specs.declared.Loaded.TheVariants.{Fine, Bad}
+use Rattle.loading.specs.Workings.Calls.{Loading, not_loaded, done, loadable, loading_whole, loading, all_whole, whole_loaded, there, adding}
 use Rattle.loading.proofs.LayerPlanes.{whole-at, loaded-yes}
-use Rattle.loading.proofs.WordSums.{fine-at}
 
 pub coefs-long : (h : Header) (long : ℕ) (bs : List ℕ) (plan : ℕ → ℕ) → length (coefs_read h long bs plan) ≡ points h.shape
 unfolding coefs_read
@@ -82,15 +80,6 @@ unfolding whole_in
 whole_is h r n = rw r
 
 -- ---- the planes of a plan
-bad-fine : {k : ℕ} → Bad k ≡ Fine → ⊥
-bad-fine e = let z : ◌≡◌ {A = ℕ} 0 1 = cc in omega arith
-
-fine-bad : {k : ℕ} → Fine ≡ Bad k → ⊥
-fine-bad e = let z : ◌≡◌ {A = ℕ} 0 1 = cc in omega arith
-
-bad-same : {j k : ℕ} → Bad j ≡ Bad k → j ≡ k
-bad-same e = cc
-
 module _ (h : Header) (long : ℕ) (bs : List ℕ) (plan : Plan) (qs : List ℤ) where
   abbrev slot : ℕ
   slot = first_bad h long bs (loads plan)
@@ -98,14 +87,22 @@ module _ (h : Header) (long : ℕ) (bs : List ℕ) (plan : Plan) (qs : List ℤ)
   abbrev all : ℕ
   all = slots h
 
-  pub load-bad : (k : ℕ) → Bad k ≡ loaded_as h long bs (loads plan) → not_loaded qs (refusal 8 k 0) ≡ loading_whole qs bs h long plan slot
-  load-bad k e =
-      by (ltb slot all)
-      (λ t. rw t (ap (λ (j : ℕ). not_loaded qs (refusal 8 j 0)) (bad-same (rw t at e))))
-      (λ t. absurd (bad-fine (rw t at e)))
+  -- what a walk's answer is told as
+  told : Result (Unit {0}) BadLayer → Loading
+  told (Ok u) = done (coefs_read h long bs (loads plan))
+  told (Err b) = not_loaded qs (refusal 8 b.0 0)
 
-  pub load-fine : Fine ≡ loaded_as h long bs (loads plan) → done (coefs_read h long bs (loads plan)) ≡ loading_whole qs bs h long plan slot
-  load-fine e = by (ltb slot all) (λ t. absurd (fine-bad (rw t at e))) (λ t. rw t)
+  told-is : told (loaded_as h long bs (loads plan)) ≡ loading_whole qs bs h long plan slot
+  unfolding told
+  told-is = by (ltb slot all) (λ t. rw t) (λ t. rw t)
+
+  pub load-bad : (b : BadLayer) → Err b ≡ loaded_as h long bs (loads plan) → not_loaded qs (refusal 8 b.0 0) ≡ loading_whole qs bs h long plan slot
+  unfolding told
+  load-bad b e = ap told e ∙ told-is
+
+  pub load-fine : (u : Unit {0}) → Ok u ≡ loaded_as h long bs (loads plan) → done (coefs_read h long bs (loads plan)) ≡ loading_whole qs bs h long plan slot
+  unfolding told
+  load-fine u e = ap told e ∙ told-is
 
 -- ---- a plan within the whole planes
 module _ (h : Header) (long : ℕ) (bs : List ℕ) (plan : Plan) (e : first_over (loads (whole_plan h (length bs - long))) (loads plan) ≡ layers_most) where
@@ -125,22 +122,13 @@ module _ (h : Header) (r : well_formed h ≡ true) (long : ℕ) (bs : List ℕ) 
       let w = counted-whole h n k hk p l.0 (omega (arith, l.1, within h long bs plan e k (omega arith))) in
       omega (arith, whole-fits h n k p w)
 
--- ---- one plane: where it stands, and whether it is fine, as the code asks it
+-- ---- one plane: where it stands
 module _ (h : Header) (k p : ℕ) where
   pub before-is : well_formed h ≡ true → k < layers h.shape → p < planes_of h k → cells_before_in h k p ≡ cells_before h k p
   unfolding cells_before_in
   before-is r hk hp =
       let few : k < layers_most = omega (arith, layers-few (right-yes h r)) in
       rw (r, lt-ltb k layers_most few, lt-ltb p (planes_of h k) hp)
-
-  pub fine-is : (long : ℕ) (bs : List ℕ) (b : Bool) (from n c : ℕ)
-      → from ≡ long + cell_bytes * cells_before h k p → n ≡ layer_size h.shape k → c ≡ plane_cells h.shape k
-      → b ≡ fine_bits (bit_at bs from) n c (eqb (p + 1) (planes_of h k)) → fine h long bs k p ≡ b
-  fine-is long bs b from n c ef en ec eb =
-      let s : suc p ≡ p + 1 = sym (add-one p) in
-      fine-at h long bs (λ _. 0) k p
-      ∙ (λ t. fine_bits (bit_at bs (sym ef t)) (sym en t) (sym ec t) (eqb (s t) (planes_of h k)))
-      ∙ sym eb
 
 -- ---- what the calls answer
 module _ (qs : List ℤ) (bs : List ℕ) (h : Header) (long : ℕ) where
@@ -152,9 +140,34 @@ module _ (qs : List ℤ) (bs : List ℕ) (h : Header) (long : ℕ) where
     abbrev over : ℕ
     over = first_over (loads (whole_plan h (length bs - long))) (loads plan)
 
+    pub over-most : over ≤ layers_most
+    over-most = over-le (loads (whole_plan h (length bs - long))) (loads plan)
+
+    -- as the code finds it
+    over_is : {w : Plan} {n : ℕ} → w ≡ whole_in h n → n ≡ length bs - long → first_over (loads w) (loads plan) ≡ over
+    over_is {w} {n} e left =
+        let same : w ≡ whole_plan h (length bs - long) = e ∙ whole_is h (loadable-right qs bs h long y) n ∙ ap (whole_plan h) left in
+        ap (λ (p : Plan). first_over (loads p) (loads plan)) same
+
     pub plan-over : over < layers_most → not_loaded qs (refusal 9 over 0) ≡ loading qs bs h long plan
     unfolding loading
     plan-over l = rw (y, lt-ltb over layers_most l)
+
+    -- as the code is told the first such place
+    module _ {w : Plan} {n : ℕ} (e : w ≡ whole_in h n) (left : n ≡ length bs - long) where
+      pub told-over : {p : ℕ} → Some p ≡ place_in layers_most (first_over (loads w) (loads plan)) → not_loaded qs (refusal 9 p 0) ≡ loading qs bs h long plan
+      told-over {p} found =
+          let is : Some p ≡ place_in layers_most over = found ∙ ap (place_in layers_most) (over_is e left) in
+          by (ltb over layers_most)
+          (λ t. let f : Some p ≡ Some over = rw t at is in let q : p ≡ over = cc in ap (λ (m : ℕ). not_loaded qs (refusal 9 m 0)) q ∙ plan-over (ltb-true _ _ t))
+          (λ t. let f : Some p ≡ None = rw t at is in absurd (let z : ⊥ = cc in z))
+
+      pub told-within : None ≡ place_in layers_most (first_over (loads w) (loads plan)) → over ≡ layers_most
+      told-within found =
+          let is : None ≡ place_in layers_most over = found ∙ ap (place_in layers_most) (over_is e left) in
+          by (ltb over layers_most)
+          (λ t. let f : None ≡ Some over = rw t at is in absurd (let z : ⊥ = cc in z))
+          (λ t. omega (arith, ltb-false over layers_most t, over-most))
 
     pub plan-good : over ≡ layers_most → loading_whole qs bs h long plan (first_bad h long bs (loads plan)) ≡ loading qs bs h long plan
     unfolding loading
@@ -174,21 +187,10 @@ module _ (qs : List ℤ) (bs : List ℕ) (h : Header) (long : ℕ) where
     pub whole-loading : loading_whole qs bs h long plan (first_bad h long bs (loads plan)) ≡ all_whole qs bs h long
     whole-loading = ap (λ (p : Plan). loading_whole qs bs h long p (first_bad h long bs (loads p))) told-whole ∙ plan-good y (whole_plan h (length bs - long)) whole-good
 
-  -- beside a refusal the plan is that of no planes
-  module _ (r : Refusal) (q : List ℤ) (e : as_loading r q ≡ all_whole qs bs h long) where
-    abbrev number : ℕ
-    number = (details_of r).number
-
-    same_number : (all_whole qs bs h long).refused.number ≡ number
-    same_number = ap (λ (x : Loading). x.refused.number) (sym e)
-
-    pub plan-whole : r ≡ F.Accepted → whole_plan h (length bs - long) ≡ whole_loaded qs bs h long
-    unfolding whole_loaded
-    plan-whole y = rw (same_number, y)
-
-    pub plan-none : (number ≡ 0 → ⊥) → no_plan ≡ whole_loaded qs bs h long
-    unfolding whole_loaded
-    plan-none n = rw (same_number, ne_eqb number 0 n)
+  -- it is told where nothing is refused
+  pub plan-whole : (q : List ℤ) → done q ≡ all_whole qs bs h long → whole_plan h (length bs - long) ≡ whole_loaded qs bs h long
+  unfolding whole_loaded
+  plan-whole q e = rw (ap (λ (x : Loading). x.refused.number) (sym e))
 
   -- ---- one plane more
   module _ (k p : ℕ) where

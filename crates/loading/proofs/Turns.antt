@@ -1,11 +1,12 @@
--- A walk in card order. At layer k of a place: its numbers by the lists, the cells up to the end of its plane, and what checking the plane answers. At a place: its slots come behind those of the places before.
+-- A walk in card order. At layer k of a place: its numbers by the lists, the cells up to the end of its plane, and whether the plane is fine. At a place: its slots come behind those of the places before.
 use mathlib.Core.Path.{◌≡◌, sym, ap, ap₂, ◌∙◌}
-use mathlib.Core.Bool.{true, false, cond, not}
+use mathlib.Core.Bool.{Bool, true, false, cond, not}
 use mathlib.Core.List.{List}
 use Prim.Native.Nat.{ℕ, suc, ◌+◌, ◌-◌, ◌*◌, ◌<◌, ◌≤◌}
 use native.Mathlib.Decide.{dec_lt}
 use native.Mathlib.Omega.{arith}
-use lib.Dec.{ltb}
+use lib.Dec.{ltb, eqb}
+use Rattle.std.specs.Prelude.{Err}
 use lib.ListN.{get_or}
 use Rattle.sheet.specs.declared.Shape.{Shape}
 use Rattle.sheet.specs.Limits.{layers_most}
@@ -18,16 +19,21 @@ use Rattle.header.specs.Header.{places_most, cell_bytes, cell_points, planes_of,
 use Rattle.header.specs.Workings.{cells_most, cells_at, plane_cells_most, spans_of}
 use Rattle.header.proofs.Total.{plane-room, plane-most}
 use Rattle.header.proofs.Cells.{size-there, cells-there}
-use Rattle.header.proofs.WellFormed.{WellFormed, layers-few, few-planes}
+use Rattle.header.proofs.WellFormed.{WellFormed, right-yes, layers-few, few-planes}
 use Rattle.order.specs.CardOrder.{cells_before}
 use Rattle.order.specs.Workings.{slot_no}
 use Rattle.order.proofs.CardOrder.{next_place}
 use Rattle.order.proofs.Slots.{cells-next, cells-few}
-use Rattle.loading.specs.InBytes.{bad_slot}
-use Rattle.loading.specs.declared.Loaded.TheVariants.{Bad}
-use Rattle.loading.specs.Workings.Words.{slot_fine, loaded_as, FineBefore}
-use Rattle.loading.proofs.SlotTests.{fine-same}
-use Rattle.loading.proofs.WordSums.{fine-slot, bad-is}
+use Rattle.loading.specs.InBytes.{bit_at, fine_bits, fine, loaded, bad_slot}
+use Rattle.packing.specs.Workings.Words.{block_start, words_most}
+use Rattle.packing.proofs.Blocks.{block_room}
+use Rattle.header.specs.Opening.{well_formed}
+use Rattle.sheet.specs.Workings.Shapes.{layer_count}
+use Rattle.sheet.proofs.Accepting.{count-is}
+use Rattle.loading.specs.Workings.Words.{loaded_as, FineBefore}
+use Rattle.loading.specs.declared.BadLayer.{BadLayer}
+use Rattle.loading.specs.declared.walking.Walk.{Walk}
+use Rattle.loading.proofs.WordSums.{slot_asked, bad-is, fine-is}
 
 -- ---- at layer k of place p, with n points in c cells, where `cells` cells stand before its plane
 pub record Turn (h : Header) (k p cells n c : ℕ) : Type 0 where
@@ -40,10 +46,11 @@ pub record Turn (h : Header) (k p cells n c : ℕ) : Type 0 where
   pub before : cells ≡ cells_before h k p
   pub few : cells ≤ cells_most
   pub few-next : cells_before h (k + 1) p ≤ cells_most
+  pub block : block_start h.shape k + cell_points * c ≤ words_most
 
-pub turn : (h : Header) → WellFormed h → (sizes spans : List ℕ) → sizes ≡ tabulate layers_most (size_at h.shape) → spans ≡ spans_of h.shape
-    → (k p cells : ℕ) → k < layers h.shape → cells ≡ cells_before h k p → Turn h k p cells (get_or sizes k 0) (get_or spans k 0)
-turn h r sizes spans es ec k p cells hk e =
+turn : {h : Header} {sizes spans : List ℕ} {k p cells n : ℕ} → well_formed h ≡ true → sizes ≡ tabulate layers_most (size_at h.shape) → spans ≡ spans_of h.shape
+    → n ≡ layer_count h.shape → k < n → cells ≡ cells_before h k p → Turn h k p cells (get_or sizes k 0) (get_or spans k 0)
+turn {h} {sizes} {spans} {k} {p} {cells} w es ec en lt e =
     record {
       below = hk;
       layer = a-layer;
@@ -54,19 +61,30 @@ turn h r sizes spans es ec k p cells hk e =
       before = e;
       few = omega (arith, cells-few h (few-planes r) r.shape k p);
       few-next = cells-few h (few-planes r) r.shape (k + 1) p;
+      block = omega (arith, span-is, block_room sh r.shape k hk);
     }
   where
     sh : Shape
     sh = h.shape
 
+    r : WellFormed h
+    r = right-yes h w
+
+    hk : k < layers sh
+    hk = omega (arith, count-is sh r.shape)
+
     a-layer : k < layers_most
-    a-layer = omega (arith, layers-few r)
+    a-layer = omega (arith, hk, layers-few r)
 
     size_is : get_or sizes k 0 ≡ layer_size sh k
     size_is = ap (λ (ns : List ℕ). get_or ns k 0) es ∙ get_or-tabulate layers_most (size_at sh) k 0 a-layer ∙ size-there sh r.shape k hk
 
     span-is : get_or spans k 0 ≡ plane_cells sh k
     span-is = ap (λ (ns : List ℕ). get_or ns k 0) ec ∙ get_or-tabulate layers_most (cells_at sh) k 0 a-layer ∙ cells-there sh r.shape k hk
+
+-- where a walk comes to layer k of place p
+pub here : (w : Walk) {k p cells n : ℕ} → n ≡ layer_count w.header.shape → k < n → cells ≡ cells_before w.header k p → Turn w.header k p cells (get_or w.sizes k 0) (get_or w.spans k 0)
+here w en lt e = turn w.formed w.sizes_are w.spans_are en lt e
 
 module _ {h : Header} {k p cells n c : ℕ} (t : Turn h k p cells n c) where
   -- where its plane stands
@@ -78,44 +96,51 @@ module _ {h : Header} {k p cells n c : ℕ} (t : Turn h k p cells n c) where
   cells-on own e =
       ap₂ (λ (x y : ℕ). x + y) t.before (e ∙ ap (λ (x : ℕ). cond (ltb p (planes_of h k)) x 0) t.span) ∙ sym (cells-next h k p t.below)
 
-  -- whether it is fine
-  pub answer-is : (long : ℕ) (bs : List ℕ) (plan : ℕ → ℕ) → p < places_most
-      → slot_fine bs (long + cell_bytes * cells) n c (planes_of h k) (plan k) p ≡ not (bad_slot h long bs plan (slot_no h k p))
-  answer-is long bs plan hp = fine-same bs (from_is long) t.size t.span _ _ _ ∙ fine-slot h long bs plan k p t.below hp
+  -- whether it is fine, where it is loaded
+  pub slot-fine : (long : ℕ) (bs : List ℕ) (plan : ℕ → ℕ) → p < places_most → loaded h plan k p ≡ true → (b : Bool)
+      → b ≡ fine_bits (bit_at bs (long + cell_bytes * cells)) n c (eqb (p + 1) (planes_of h k))
+      → (fine h long bs k p ≡ b) × (bad_slot h long bs plan (slot_no h k p) ≡ not b)
+  slot-fine long bs plan hp a b e =
+      let f = fine-is h long bs plan k p b (long + cell_bytes * cells) n c (from_is long) t.size t.span e in
+      (f, slot_asked h long bs plan k p t.below hp a ∙ ap not f)
 
--- ---- after t places
-module _ (h : Header) (t : ℕ) where
-  -- the slots of the next one come behind theirs
-  pub slot-behind : t < places_most → (k : ℕ) → slot_no h k (places_most - 1 - t) ≡ t * layers h.shape + k
-  slot-behind m k = let e : places_most - 1 - (places_most - 1 - t) ≡ t = omega arith in ap (λ (x : ℕ). x * layers h.shape + k) e
+-- ---- with n places to come, the next of them n - 1
+module _ (h : Header) (n : ℕ) (m : 0 < n) where
+  -- its slots come behind those passed
+  pub slot-behind : n ≤ places_most → (k : ℕ) → slot_no h k (n - 1) ≡ (places_most - n) * layers h.shape + k
+  slot-behind l k = let e : places_most - 1 - (n - 1) ≡ places_most - n = omega arith in ap (λ (x : ℕ). x * layers h.shape + k) e
 
-  -- and the cells up to its end are those before the one after it
-  pub cells-down : t + 1 < places_most → cells_before h (layers h.shape) (places_most - 1 - t) ≡ cells_before h 0 (places_most - 1 - (t + 1))
-  cells-down m =
-      let down : places_most - 1 - t ≡ suc (places_most - 1 - (t + 1)) = omega arith in
-      ap (cells_before h (layers h.shape)) down ∙ sym (next_place h (places_most - 1 - (t + 1)))
+  -- they end where the slots of the place after it begin
+  pub slots-on : n ≤ places_most → slot_no h (layers h.shape) (n - 1) ≡ (places_most - (n - 1)) * layers h.shape
+  slots-on l = let e : places_most - (n - 1) ≡ places_most - n + 1 = omega arith in slot-behind l (layers h.shape) ∙ rw e (omega arith)
+
+  -- and the cells up to its end are those before that place
+  pub cells-down : 0 < n - 1 → cells_before h (layers h.shape) (n - 1) ≡ cells_before h 0 (n - 1 - 1)
+  cells-down l =
+      let down : n - 1 ≡ suc (n - 1 - 1) = omega arith in
+      ap (cells_before h (layers h.shape)) down ∙ sym (next_place h (n - 1 - 1))
 
 module _ (h : Header) (long : ℕ) (bs : List ℕ) (plan : ℕ → ℕ) where
-  -- no slot before slot n is bad
+  -- no slot before slot t is bad
   abbrev pub FineUpTo : ℕ → Type 0
-  FineUpTo n = (u : ℕ) → u < n → bad_slot h long bs plan u ≡ false
+  FineUpTo t = (u : ℕ) → u < t → bad_slot h long bs plan u ≡ false
 
-  module _ (t : ℕ) (m : t < places_most) (f : FineUpTo (t * layers h.shape)) where
+  module _ (n : ℕ) (m : 0 < n) (l : n ≤ places_most) (f : FineUpTo ((places_most - n) * layers h.shape)) where
     -- up to the plane of layer k no slot is bad, where no layer before it has a bad one
-    pub fine-up-to : (k : ℕ) → FineBefore h long bs plan k (places_most - 1 - t) → FineUpTo (t * layers h.shape + k)
-    fine-up-to k g u l =
-        elim (dec_lt u (t * layers h.shape)) [
-          | yes n ↦ f u n
-          | no n ↦
-              let j = u - t * layers h.shape in
-              let e : t * layers h.shape + j ≡ u = omega arith in
-              ap (bad_slot h long bs plan) (sym e ∙ sym (slot-behind h t m j)) ∙ g j (omega arith)
+    fine-up-to : (k : ℕ) → FineBefore h long bs plan k (n - 1) → FineUpTo ((places_most - n) * layers h.shape + k)
+    fine-up-to k g u a =
+        elim (dec_lt u ((places_most - n) * layers h.shape)) [
+          | yes b ↦ f u b
+          | no b ↦
+              let j = u - (places_most - n) * layers h.shape in
+              let e : (places_most - n) * layers h.shape + j ≡ u = omega arith in
+              ap (bad_slot h long bs plan) (sym e ∙ sym (slot-behind h n m l j)) ∙ g j (omega arith)
         ]
 
-    pub fine-on : FineBefore h long bs plan (layers h.shape) (places_most - 1 - t) → FineUpTo ((t + 1) * layers h.shape)
-    fine-on g u l = fine-up-to (layers h.shape) g u (omega arith)
+    pub fine-on : FineBefore h long bs plan (layers h.shape) (n - 1) → FineUpTo ((places_most - (n - 1)) * layers h.shape)
+    fine-on g u a = fine-up-to (layers h.shape) g u (omega (arith, slot-behind h n m l (layers h.shape), slots-on h n m l))
 
     -- the first bad plane of the next place is the first of all
-    pub bad-first : (k : ℕ) → k < layers h.shape → bad_slot h long bs plan (slot_no h k (places_most - 1 - t)) ≡ true → FineBefore h long bs plan k (places_most - 1 - t)
-        → loaded_as h long bs plan ≡ Bad k
-    bad-first k l e g = bad-is h long bs plan k (places_most - 1 - t) l (omega arith) e (λ u n. fine-up-to k g u (omega (arith, slot-behind h t m k)))
+    pub bad-first : (b : BadLayer) → b.0 < layers h.shape → bad_slot h long bs plan (slot_no h b.0 (n - 1)) ≡ true → FineBefore h long bs plan b.0 (n - 1)
+        → loaded_as h long bs plan ≡ Err b
+    bad-first b lt e g = bad-is h long bs plan b (n - 1) lt (omega arith) e (λ u a. fine-up-to b.0 g u (omega (arith, slot-behind h n m l b.0)))

@@ -1,14 +1,15 @@
 -- The words after t slots: at each place of a layer's block the total of the bits of the planes loaded so far, each at its place. A slot changes one term of the totals of its own layer's block and none of the others'; a total of one bit a place stays below 2 ^ 23.
 use mathlib.Core.Path.{◌≡◌, refl, sym, ap, ap₂, ◌∙◌}
-use mathlib.Core.Bool.{Bool, true, false, cond, not, ◌&&◌, ◌||◌}
+use mathlib.Core.Bool.{Bool, true, false, cond, not, ◌&&◌}
 use mathlib.Core.List.{List}
-use Prim.Native.Nat.{ℕ, zero, suc, ◌+◌, ◌*◌, ◌-◌, ◌^◌, ◌<◌, ◌≤◌}
+use Prim.Native.Nat.{ℕ, zero, suc, ◌+◌, ◌*◌, ◌-◌, ◌/◌, ◌^◌, ◌<◌, ◌≤◌}
 use native.Mathlib.Nat.{le_refl, two-pow-succ}
 use native.Mathlib.Decide.{dec_lt, ℕ_discrete}
 use native.Mathlib.Omega.{arith}
 use borrow.Author.Tests.{lt-ltb, le-ltb}
 use lib.Dec.{ltb, eqb}
-use lib.ListN.{length, get_or, replicate, length-replicate}
+use Rattle.std.specs.Prelude.{Ok, Err}
+use lib.ListN.{get_or, replicate, length-replicate}
 use Rattle.digits.proofs.Firsts.{first-at, first-none}
 use Rattle.sheet.specs.Lists.{total}
 use Rattle.sheet.specs.Sheet.{accepted, layers, layer_size}
@@ -19,14 +20,14 @@ use Rattle.order.specs.CardOrder.{cells_before}
 use Rattle.order.specs.Workings.{slot_no}
 use Rattle.header.proofs.Totals.{total-same, total-none, total-bump}
 use Rattle.header.proofs.Total.{plane-room}
-use Rattle.loading.specs.InBytes.{bit_at, fine_bits, among_top, bit_of, fine, loaded, bad_slot, first_bad, word_read}
+use Rattle.loading.specs.InBytes.{bit_at, fine_bits, bit_of, fine, loaded, bad_slot, first_bad, word_read}
 use Rattle.packing.specs.Workings.Words.{block_start, words_most}
-use Rattle.loading.specs.Workings.Words.{slot_fine, slot_words, words_with, Read, loaded_as, share, Partly}
-use Rattle.loading.specs.declared.Loaded.TheVariants.{Fine, Bad}
+use Rattle.loading.specs.declared.BadLayer.{BadLayer}
+use Rattle.loading.specs.Workings.Words.{words_with, Read, loaded_as, share, Partly}
 use Rattle.loading.proofs.ZeroBits.{bit-most}
 use Rattle.sheet.proofs.Lists.{get_or-zeros}
-use Rattle.loading.proofs.PlaneSums.{at_most, with-length, with_in, with-before, with-after}
-use Rattle.loading.proofs.SlotTests.{slot-none, slot-adds}
+use Rattle.loading.proofs.PlaneSums.{at_most, with-length, with_in, with-before, with-after, with-zeros}
+use Rattle.loading.proofs.SlotTests.{fine-zeros}
 use Rattle.packing.proofs.Blocks.{blocks-apart, block_room, in_block}
 use Rattle.order.proofs.Slots.{slot_is, slot_same, slot-last}
 
@@ -69,6 +70,12 @@ module _ (h : Header) (long : ℕ) (bs : List ℕ) (plan : ℕ → ℕ) where
   unfolding fine
   fine-at k p = refl
 
+  -- as the code asks it
+  pub fine-is : (k p : ℕ) (b : Bool) (from n c : ℕ)
+      → from ≡ long + cell_bytes * cells_before h k p → n ≡ layer_size h.shape k → c ≡ plane_cells h.shape k
+      → b ≡ fine_bits (bit_at bs from) n c (eqb (p + 1) (planes_of h k)) → fine h long bs k p ≡ b
+  fine-is k p b from n c ef en ec eb = let s : suc p ≡ p + 1 = omega arith in fine-at k p ∙ rw (s, ← ef, ← en, ← ec) (sym eb)
+
   pub share-most : (t k i p : ℕ) → share h long bs plan t k i p ≤ 2 ^ p
   share-most t k i p =
       by (loaded h plan k p)
@@ -86,30 +93,24 @@ module _ (h : Header) (long : ℕ) (bs : List ℕ) (plan : ℕ → ℕ) where
   unfolding bad_slot
   bad-slot k p l m = let o = slot_is h k p l m in sym (ap₂ (λ (x y : ℕ). loaded h plan x y && not (fine h long bs x y)) o.0 o.1)
 
-  pub fine-slot : (k p : ℕ) → k < L → p < places_most
-      → slot_fine bs (long + cell_bytes * cells_before h k p) (layer_size h.shape k) (plane_cells h.shape k) (planes_of h k) (plan k) p ≡ not (bad_slot h long bs plan (slot_no h k p))
-  unfolding slot_fine
-  fine-slot k p l m =
-      ap (λ (f : Bool). not (loaded h plan k p) || f) (sym (fine-at k p))
-      ∙ turned (loaded h plan k p) (fine h long bs k p)
-      ∙ ap not (sym (bad-slot k p l m))
-    where
-      turned : (a f : Bool) → not a || f ≡ not (a && not f)
-      turned true true = refl
-      turned true false = refl
-      turned false f = refl
+  pub slot_passed : (k p : ℕ) → k < L → p < places_most → loaded h plan k p ≡ false → bad_slot h long bs plan (slot_no h k p) ≡ false
+  slot_passed k p l m e = rw (bad-slot k p l m, e)
+
+  pub slot_asked : (k p : ℕ) → k < L → p < places_most → loaded h plan k p ≡ true → bad_slot h long bs plan (slot_no h k p) ≡ not (fine h long bs k p)
+  slot_asked k p l m e = rw (bad-slot k p l m, e)
 
   -- the first slot that is bad, and none
-  pub bad-is : (k p : ℕ) → k < L → p < places_most → bad_slot h long bs plan (slot_no h k p) ≡ true → ((u : ℕ) → u < slot_no h k p → bad_slot h long bs plan u ≡ false)
-      → loaded_as h long bs plan ≡ Bad k
-  bad-is k p l m e f =
+  pub bad-is : (b : BadLayer) (p : ℕ) → b.0 < L → p < places_most → bad_slot h long bs plan (slot_no h b.0 p) ≡ true → ((u : ℕ) → u < slot_no h b.0 p → bad_slot h long bs plan u ≡ false)
+      → loaded_as h long bs plan ≡ Err b
+  bad-is b p l m e f =
+      let k = b.0 in
       let n = places_most * L in
       let t = slot_no h k p in
       let inside : t < n = slot-last h k p l in
       let first : first_bad h long bs plan ≡ t = unfold first_bad in first-at (bad_slot h long bs plan) n 0 t (omega arith) (omega arith) e (λ i _ m. f i m) in
       rw (first, lt-ltb t n inside, ← (slot_is h k p l m).0)
 
-  pub none_is : ((u : ℕ) → u < places_most * L → bad_slot h long bs plan u ≡ false) → loaded_as h long bs plan ≡ Fine
+  pub none_is : ((u : ℕ) → u < places_most * L → bad_slot h long bs plan u ≡ false) → loaded_as h long bs plan ≡ Ok tt
   none_is f =
       let n = places_most * L in
       let first : first_bad h long bs plan ≡ 0 + n = unfold first_bad in first-none (bad_slot h long bs plan) n 0 (λ i _ m. f i (omega arith)) in
@@ -122,16 +123,13 @@ module _ (h : Header) (long : ℕ) (bs : List ℕ) (plan : ℕ → ℕ) where
   K = layers h.shape
 
   -- before the first slot all are 0
-  pub partly_none : (n : ℕ) (ws : List ℕ) → ws ≡ replicate n 0 → n ≡ words_most → Partly h long bs plan 0 ws
-  partly_none n ws e q =
+  pub partly_none : (t : ℕ) → t ≡ 0 → Partly h long bs plan t (replicate words_most 0)
+  partly_none t e =
       record {
-        long_is = ap length e ∙ length-replicate n 0 ∙ q;
-        rest = λ j _. zeros j;
-        word = λ k i _ _. zeros (block_start h.shape k + i) ∙ sym (total-none (share h long bs plan 0 k i) places_most (λ p _. share-coming h long bs plan 0 k i p (omega arith)));
+        long_is = length-replicate {A = ℕ} words_most 0;
+        rest = λ j _. get_or-zeros words_most j;
+        word = λ k i _ _. get_or-zeros words_most (block_start h.shape k + i) ∙ sym (total-none (share h long bs plan t k i) places_most (λ p _. share-coming h long bs plan t k i p (omega arith)));
       }
-    where
-      zeros : (j : ℕ) → get_or ws j 0 ≡ 0
-      zeros j = ap (λ (l : List ℕ). get_or l j 0) e ∙ get_or-zeros n j
 
   -- none is large
   pub partly-small : (t : ℕ) (ws : List ℕ) → Partly h long bs plan t ws → (j : ℕ) → get_or ws j 0 < 2 ^ places_most
@@ -164,13 +162,14 @@ module _ (h : Header) (long : ℕ) (bs : List ℕ) (plan : ℕ → ℕ) where
     from = long + cell_bytes * cells_before h k p
 
     -- one that is not loaded
-    partly-same : loaded h plan k p ≡ false → Partly h long bs plan (t + 1) ws
+    pub partly-same : loaded h plan k p ≡ false → Partly h long bs plan (slot_no h (k + 1) p) ws
     partly-same out =
-        record {
+        let on : slot_no h (k + 1) p ≡ t + 1 = omega arith in
+        rw on (record {
           long_is = w.long_is;
           rest = w.rest;
           word = λ j i a b. w.word j i a b ∙ total-same (share h long bs plan t j i) (share h long bs plan (t + 1) j i) places_most (λ q m. same j i q a m);
-        }
+        })
       where
         same : (j i q : ℕ) → j < K → q < places_most → share h long bs plan t j i q ≡ share h long bs plan (t + 1) j i q
         same j i q a m =
@@ -223,13 +222,16 @@ module _ (h : Header) (long : ℕ) (bs : List ℕ) (plan : ℕ → ℕ) where
             (share-yes h long bs plan (t + 1) k i p is (omega arith) ∙ omega (arith, share-coming h long bs plan t k i p (le_refl t)))
             (λ q m ne. share-same h long bs plan t k i q (λ z. ne (slot_same h k q k p hk m hk hp z).1)))
 
-    pub partly-next : (vs : List ℕ)
-        → slot_fine bs from (layer_size h.shape k) (plane_cells h.shape k) (planes_of h k) (plan k) p ≡ true
-        → vs ≡ slot_words bs from (layer_size h.shape k) (plane_cells h.shape k) (planes_of h k) (plan k) p ws (block_start h.shape k)
-        → Partly h long bs plan (slot_no h (k + 1) p) vs
-    partly-next vs f e =
+    -- one that is fine: its bits stand in the first bytes of its cells alone
+    pub partly_taken : loaded h plan k p ≡ true → fine h long bs k p ≡ true
+        → Partly h long bs plan (slot_no h (k + 1) p) (words_with ws (block_start h.shape k) (8 * ((layer_size h.shape k + 7) / 8)) p (bit_at bs from))
+    partly_taken a f =
         let on : slot_no h (k + 1) p ≡ t + 1 = omega arith in
-        rw on
-        (by (among_top (planes_of h k) (plan k) p)
-        (λ a. rw (e ∙ slot-adds bs from (layer_size h.shape k) (plane_cells h.shape k) (planes_of h k) (plan k) p ws (block_start h.shape k) a f) (partly_more a))
-        (λ a. rw (e ∙ slot-none bs from (layer_size h.shape k) (plane_cells h.shape k) (planes_of h k) (plan k) p ws (block_start h.shape k) a) (partly-same a)))
+        let n = layer_size h.shape k in
+        let c = plane_cells h.shape k in
+        rw (
+          on,
+          with-zeros ws (block_start h.shape k) (8 * ((n + 7) / 8)) (cell_points * c) p (bit_at bs from) (omega (arith, plane-room h.shape k))
+              (λ i l m. fine-zeros bs from n c (eqb (suc p) (planes_of h k)) (sym (fine-at h long bs plan k p) ∙ f) i (omega arith) m),
+        )
+        (partly_more a)

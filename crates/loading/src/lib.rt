@@ -7,27 +7,9 @@ mod refining;
 mod spreading;
 mod walking;
 
-use header::{Plan, Refusal};
 pub use loading::{examine, load, load_whole};
 pub use refining::add_plane;
 
-// What loading all whole planes answers: the plan that they are; that of no planes beside a refusal.
+// The layer of the first plane that is not fine.
 #[derive(Clone, Copy)]
-pub struct Whole {
-    pub refusal: Refusal,
-    pub plan: Plan,
-}
-
-// Whether the planes at one place are fine, with the cells up to their end, or the layer of the first one that is not.
-#[derive(Clone, Copy)]
-pub enum Placed {
-    Fine(usize),
-    Bad(usize),
-}
-
-// Whether the planes of a plan are fine, or the layer of the first one that is not.
-#[derive(Clone, Copy)]
-pub enum Loaded {
-    Fine,
-    Bad(usize),
-}
+pub(crate) struct BadLayer(pub(crate) usize);

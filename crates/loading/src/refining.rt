@@ -1,5 +1,5 @@
 // One plane more, added to coefficients.
-ghost use Rattle.std.specs.Prelude.{◌≡◌, true, cond, not, ℕ, ◌+◌, ◌*◌, ◌/◌, ◌^◌, ◌<◌, ◌≤◌, pos, ◌+ℤ◌, ◌*ℤ◌, length};
+ghost use Rattle.std.specs.Prelude.{◌≡◌, true, not, ℕ, ◌+◌, ◌*◌, ◌/◌, ◌^◌, ◌<◌, ◌≤◌, pos, ◌+ℤ◌, ◌*ℤ◌, length};
 ghost use Rattle.integers.specs.Distance.{Within};
 ghost use Rattle.digits.specs.Digits.{weight, holds};
 ghost use Rattle.sheet.specs.Limits.{points_most};
@@ -21,17 +21,11 @@ const LEAST_COEFFICIENT: i32 = -2796202;
 
 const MOST_COEFFICIENT: i32 = 5592405;
 
-// 1 for a number that 23 digits do not hold, and 0 for one that they hold.
-fn outside(q: i32) -> u32
-    ensures { result ≡ cond (not (holds Hd.places_most q)) 1 0 }
+// Do 23 digits not hold a number?
+fn is_outside(q: i32) -> bool
+    ensures { result ≡ not (holds Hd.places_most q) }
 {
-    if q < LEAST_COEFFICIENT {
-        return 1;
-    }
-    if MOST_COEFFICIENT < q {
-        return 1;
-    }
-    0
+    q < LEAST_COEFFICIENT || MOST_COEFFICIENT < q
 }
 
 // Is every coefficient one of 23 digits? Those that are not are counted: with no way out of the loop, several are looked at at a time.
@@ -40,8 +34,8 @@ fn all_held(coefficients: &[i32]) -> bool
     ensures { result ≡ P.all_held coefficients.now }
 {
     let mut number: u32 = 0;
-    for j in 0..coefficients.len() {
-        number += outside(coefficients[j]);
+    for q in coefficients {
+        number += u32::from(is_outside(*q));
     }
     number == 0
 }
@@ -81,7 +75,7 @@ fn add_line(
     for j in 0..n {
         let at = first + j * stride;
         let d = bit_at(bytes, from, i + j) as i32;
-        coefficients[at] = coefficients[at] + d * scale;
+        coefficients[at] += d * scale;
     }
 }
 
@@ -122,7 +116,7 @@ fn add_named(
     layer: usize,
     p: u64,
     coefficients: &mut [i32],
-) -> Refusal
+) -> Result<(), Refusal>
     requires { (C.loadable coefficients.old bytes.now header at ≡ true) × (layer < S.layers header.shape) × (p < Hd.planes_of header layer) }
     ensures { C.as_loading result coefficients.new ≡ C.adding coefficients.old bytes.now header at layer p }
 {
@@ -131,17 +125,17 @@ fn add_named(
     let cells = header::plane_cells(shape, layer) as usize;
     let from = at + CELL_BYTES * order::cells_before(header, layer, p) as usize;
     if bytes.len() < from + CELL_BYTES * cells {
-        return Refusal::BadLengths;
+        return Err(Refusal::BadLengths);
     }
     if !all_held(coefficients) {
-        return Refusal::BadCoefficient;
+        return Err(Refusal::BadCoefficient);
     }
     let n = sheet::layer_size(shape, layer);
     if !is_fine(bytes, from, n, cells, p + 1 == counts[layer]) {
-        return Refusal::BadPlane(layer as u64);
+        return Err(Refusal::BadPlane(layer as u64));
     }
     add_digits(bytes, from, shape, layer, p, coefficients);
-    Refusal::Accepted
+    Ok(())
 }
 
 // Adds one plane of a card to coefficients, the plane of a layer at place p. A refusal changes nothing.
@@ -152,18 +146,18 @@ pub fn add_plane(
     layer: usize,
     p: u64,
     coefficients: &mut [i32],
-) -> Refusal
+) -> Result<(), Refusal>
     ensures { C.as_loading result coefficients.new ≡ C.adding coefficients.old bytes.now header at layer p }
 {
     if !is_loadable(bytes, header, at, coefficients) {
-        return Refusal::BadLengths;
+        return Err(Refusal::BadLengths);
     }
     let counts = header.planes;
     if sheet::layer_count(header.shape) <= layer {
-        return Refusal::BadLengths;
+        return Err(Refusal::BadLengths);
     }
     if counts[layer] <= p {
-        return Refusal::BadLengths;
+        return Err(Refusal::BadLengths);
     }
     add_named(bytes, header, at, layer, p, coefficients)
 }

@@ -25,8 +25,8 @@ fn spread_line(
     requires stride_nonzero { (1 < n → 0 < stride) × ((j : ℕ) → j < n → first + j * stride < length coefficients.old) }
     ensures { W.Scattered (λ j. first + j * stride) n (λ j. value (bits_of 32 (get_or words.now (start + j) 0))) coefficients.old coefficients.new }
 {
-    for j in 0..n {
-        coefficients[first + j * stride] = digits::by_groups(table, words[start + j]) as i32;
+    for (j, word) in words[start..start + n].iter().enumerate() {
+        coefficients[first + j * stride] = digits::by_groups(table, *word) as i32;
     }
 }
 

@@ -1,7 +1,8 @@
-// Planes from a card's bytes in card order: checked, and added to the words.
-ghost use Rattle.std.specs.Prelude.{◌≡◌, true, eqb, ℕ, ◌+◌, ◌*◌, ◌-◌, ◌^◌, ◌<◌, ◌≤◌, length, get_or, replicate};
+// Planes from a card's bytes in card order: one walk, which checks each plane and hands it on.
+ghost use Rattle.std.specs.Prelude.{◌≡◌, true, eqb, ℕ, suc, ◌+◌, ◌*◌, ◌-◌, ◌/◌, ◌<◌, ◌≤◌, List, length, get_or, replicate, IfOk};
 ghost use Rattle.sheet.specs.Limits.{layers_most};
 ghost use Rattle.sheet.specs.Lists.{tabulate};
+ghost use Rattle.sheet.specs.Sheet as S;
 ghost use Rattle.sheet.specs.Workings.Shapes.{size_at};
 ghost use Rattle.header.specs.Header as Hd;
 ghost use Rattle.header.specs.Workings as Wk;
@@ -14,26 +15,19 @@ ghost use Rattle.packing.specs.Workings.Words.{words_most};
 ghost use Rattle.loading.specs.InBytes as L;
 ghost use Rattle.loading.specs.Workings.Words as W;
 
-use crate::adding::{HALF_BITS, add_bytes, halved, halves};
-use crate::{Loaded, Placed};
+use crate::BadLayer;
 use header::{CELL_BYTES, CELL_POINTS, Header, MOST_PLACES, Plan};
-use sheet::{MOST_LAYERS, Shape};
-
-const PLACES: usize = MOST_PLACES as usize;
-
-const LAST_PLACE: usize = PLACES - 1;
+use sheet::MOST_LAYERS;
 
 // Is every byte of a range 0?
 fn all_zero(bytes: &[u8], from: usize, to: usize) -> bool
-    requires { to ≤ length bytes.now }
+    requires { (from ≤ to) × (to ≤ length bytes.now) }
     ensures { result ≡ P.all_below (λ b. eqb (get_or bytes.now (from + b) 0) 0) (to - from) }
 {
-    let mut b = from;
-    while b < to {
-        if bytes[b] != 0 {
+    for byte in &bytes[from..to] {
+        if *byte != 0 {
             return false;
         }
-        b += 1;
     }
     true
 }
@@ -81,194 +75,101 @@ fn is_among_top(count: u64, want: u64, p: u64) -> bool
     true
 }
 
-// Is one plane of a layer with `count` planes, of which `want` are loaded, fine where it is one of them?
-fn check_slot(
-    bytes: &[u8],
-    from: usize,
-    n: usize,
-    cells: usize,
-    count: u64,
-    want: u64,
-    p: u64,
-) -> bool
-    requires { (p < Hd.places_most) × (n ≤ Hd.cell_points * cells) × (cells ≤ words_most) × (L.among_top count want p ≡ true → from + Hd.cell_bytes * cells ≤ length bytes.now) }
-    ensures { result ≡ W.slot_fine bytes.now from n cells count want p }
-{
-    if !is_among_top(count, want, p) {
-        return true;
-    }
-    is_fine(bytes, from, n, cells, p + 1 == count)
+// What a walk does with each plane that is fine. `Kept` says of some words that the planes taken so far add up to them, with n places to come.
+pub(crate) trait Taking {
+    ghost Kept: { List ℕ → ℕ → Self → Type 0 };
+
+    // Takes the plane of n points that stands at `from`, whose words begin at `start`.
+    fn take(&mut self, bytes: &[u8], from: usize, n: usize, start: usize)
+        requires { W.Takes (λ ws p. Kept ws (suc p) self.old) bytes.now from ((n + 7) / 8) start }
+        ensures { (ws : List ℕ) (p : ℕ) → Kept ws (suc p) self.old → Kept (W.words_with ws start (8 * ((n + 7) / 8)) p (L.bit_at bytes.now from)) (suc p) self.new };
+
+    // Goes on to the place below.
+    fn descend(&mut self)
+        ensures { (ws : List ℕ) (n : ℕ) → Kept ws (suc n) self.old → Kept ws n self.new };
 }
 
-// One plane of a layer with `count` planes of which `want` are loaded: checked and added where it is one of them; its spare bytes, which are 0, are
-// passed over. False where it is not fine.
-fn load_slot(
-    bytes: &[u8],
-    from: usize,
-    n: usize,
-    cells: usize,
-    count: u64,
-    want: u64,
-    p: u64,
-    table: &[u32; HALF_BITS],
-    words: &mut [u32],
-    start: usize,
-) -> bool
-    requires p_bound { (p < Hd.places_most) × (n ≤ Hd.cell_points * cells) × (cells ≤ words_most) × (start + Hd.cell_points * cells ≤ length words.old) × (table.now ≡ W.halves p) }
-    requires cells_in_bounds { (L.among_top count want p ≡ true → from + Hd.cell_bytes * cells ≤ length bytes.now) × ((i : ℕ) → get_or words.old i 0 < 2 ^ 31) }
-    ensures { (result ≡ W.slot_fine bytes.now from n cells count want p) × (words.new ≡ W.slot_words bytes.now from n cells count want p words.old start) }
-{
-    if !check_slot(bytes, from, n, cells, count, want, p) {
-        return false;
-    }
-    if !is_among_top(count, want, p) {
-        return true;
-    }
-    add_bytes(bytes, from, (n + 7) / 8, table, words, start);
-    true
+// The planes are checked alone, and nothing is kept of them.
+#[derive(Clone, Copy)]
+pub(crate) struct Checking;
+
+impl Taking for Checking {
+    ghost Kept = { λ ws n it. Unit {0} };
+
+    fn take(&mut self, _bytes: &[u8], _from: usize, _n: usize, _start: usize) {}
+
+    fn descend(&mut self) {}
 }
 
-// The points of each layer.
-fn sizes_of(shape: Shape) -> [usize; MOST_LAYERS]
-    ensures { result ≡ tabulate layers_most (size_at shape) }
-{
-    let mut sizes = [0usize; MOST_LAYERS];
-    for k in 0..MOST_LAYERS {
-        sizes[k] = sheet::layer_size(shape, k);
-    }
-    sizes
-}
-
-// The planes at place p, layer after layer, each checked where the plan has it, until one is not fine. `before` cells stand before them.
-fn check_place(
-    bytes: &[u8],
+// A walk over the planes of a plan in card order, with the points of each layer and the cells of one plane of it.
+#[derive(Clone, Copy)]
+pub(crate) struct Walk<'a> {
+    bytes: &'a [u8],
     at: usize,
     header: Header,
     plan: Plan,
     sizes: [usize; MOST_LAYERS],
     spans: [u64; MOST_LAYERS],
-    p: u64,
-    before: usize,
-) -> Placed
-    requires header_value { (O.well_formed header ≡ true) × (at ≤ length bytes.now) × (p < Hd.places_most) × (before ≡ K.cells_before header 0 p) }
-    requires sizes_value { (sizes ≡ tabulate layers_most (size_at header.shape)) × (spans ≡ Wk.spans_of header.shape) × W.AllThere header at bytes.now (N.loads plan) }
-    ensures { W.PlaceChecked header at bytes.now (N.loads plan) p result }
-{
-    let layers = sheet::layer_count(header.shape);
-    let mut cells = before;
-    for k in 0..layers {
-        let n = sizes[k];
-        let span = spans[k];
-        let count = header.planes[k];
-        let want = plan.planes[k];
-        let from = at + CELL_BYTES * cells;
-        if !check_slot(bytes, from, n, span as usize, count, want, p) {
-            return Placed::Bad(k);
-        }
-        cells += order::span_at(span, count, p) as usize;
-    }
-    Placed::Fine(cells)
+    ghost formed: { O.well_formed header ≡ true },
+    ghost room: { at ≤ length bytes.now },
+    ghost sizes_are: { sizes ≡ tabulate layers_most (size_at header.shape) },
+    ghost spans_are: { spans ≡ Wk.spans_of header.shape },
+    ghost all_there: { W.AllThere header at bytes.now (N.loads plan) },
 }
 
-// The planes of a plan in card order, each checked, until one is not fine.
-pub(crate) fn check_body(bytes: &[u8], at: usize, header: Header, plan: Plan) -> Loaded
-    requires { (O.well_formed header ≡ true) × (at ≤ length bytes.now) × W.AllThere header at bytes.now (N.loads plan) }
-    ensures { result ≡ W.loaded_as header at bytes.now (N.loads plan) }
-{
-    let sizes = sizes_of(header.shape);
-    let spans = header.spans();
-    let mut cells: usize = 0;
-    for t in 0..PLACES {
-        let p = (LAST_PLACE - t) as u64;
-        match check_place(bytes, at, header, plan, sizes, spans, p, cells) {
-            Placed::Bad(layer) => {
-                return Loaded::Bad(layer);
-            }
-            Placed::Fine(next) => {
-                cells = next;
-            }
-        }
-    }
-    Loaded::Fine
-}
-
-// The planes at place p, layer after layer, each checked and added to the words where the plan has it, until one is not fine. `before` cells stand
-// before them.
-fn load_place(
-    bytes: &[u8],
-    at: usize,
-    header: Header,
-    plan: Plan,
-    sizes: [usize; MOST_LAYERS],
-    spans: [u64; MOST_LAYERS],
-    p: u64,
-    table: &[u32; HALF_BITS],
-    before: usize,
-    words: &mut [u32],
-) -> Placed
-    requires header_value { (O.well_formed header ≡ true) × (at ≤ length bytes.now) × (p < Hd.places_most) × (before ≡ K.cells_before header 0 p) }
-    requires sizes_value { (sizes ≡ tabulate layers_most (size_at header.shape)) × (spans ≡ Wk.spans_of header.shape) × (table.now ≡ W.halves p) }
-    requires all_there { W.AllThere header at bytes.now (N.loads plan) × W.Partly header at bytes.now (N.loads plan) (Ow.slot_no header 0 p) words.old }
-    ensures { W.PlaceRead header at bytes.now (N.loads plan) p result words.new }
-{
-    let layers = sheet::layer_count(header.shape);
-    let mut cells = before;
-    let mut start: usize = 0;
-    for k in 0..layers {
-        let n = sizes[k];
-        let span = spans[k];
-        let count = header.planes[k];
-        let want = plan.planes[k];
-        let from = at + CELL_BYTES * cells;
-        if !load_slot(
+impl<'a> Walk<'a> {
+    pub(crate) fn new(bytes: &'a [u8], at: usize, header: Header, plan: Plan) -> Walk<'a>
+        requires { (O.well_formed header ≡ true) × (at ≤ length bytes.now) × W.AllThere header at bytes.now (N.loads plan) }
+        ensures { (result.bytes.now ≡ bytes.now) × (result.at ≡ at) × (result.header ≡ header) × (result.plan ≡ plan) }
+    {
+        Walk {
             bytes,
-            from,
-            n,
-            span as usize,
-            count,
-            want,
-            p,
-            table,
-            words,
-            start,
-        ) {
-            return Placed::Bad(k);
+            at,
+            header,
+            plan,
+            sizes: std::array::from_fn(|k| sheet::layer_size(header.shape, k)),
+            spans: header.spans(),
         }
-        cells += order::span_at(span, count, p) as usize;
-        start += CELL_POINTS * span as usize;
     }
-    Placed::Fine(cells)
-}
 
-// The planes of a plan in card order, each checked and added to the words, until one is not fine.
-pub(crate) fn load_body(
-    bytes: &[u8],
-    at: usize,
-    header: Header,
-    plan: Plan,
-    words: &mut [u32],
-) -> Loaded
-    requires header_value { (O.well_formed header ≡ true) × (at ≤ length bytes.now) × (words.old ≡ replicate words_most 0) }
-    requires all_there { W.AllThere header at bytes.now (N.loads plan) }
-    ensures { (result ≡ W.loaded_as header at bytes.now (N.loads plan)) × (result ≡ Loaded.Fine → W.Read header at bytes.now (N.loads plan) words.new) }
-{
-    let sizes = sizes_of(header.shape);
-    let spans = header.spans();
-    let mut table = halves(LAST_PLACE as u64);
-    let mut cells: usize = 0;
-    for t in 0..PLACES {
-        let p = (LAST_PLACE - t) as u64;
-        match load_place(
-            bytes, at, header, plan, sizes, spans, p, &table, cells, words,
-        ) {
-            Placed::Bad(layer) => {
-                return Loaded::Bad(layer);
+    // The planes at place p, layer after layer: those of the plan are checked and taken, until one is not fine. `before` cells stand before them; the
+    // answer is those up to their end.
+    fn place<T: Taking>(&self, p: u64, before: usize, taking: &mut T) -> Result<usize, BadLayer>
+        requires place { (p < Hd.places_most) × (before ≡ K.cells_before self.now.header 0 p) }
+        requires kept { W.Holding (λ ws. T.Kept ws (suc p) taking.old) self.now.header self.now.at self.now.bytes.now (N.loads self.now.plan) (Ow.slot_no self.now.header 0 p) }
+        ensures checked { W.PlaceChecked self.now.header self.now.at self.now.bytes.now (N.loads self.now.plan) p result }
+        ensures kept { IfOk result (λ c. W.Holding (λ ws. T.Kept ws (suc p) taking.new) self.now.header self.now.at self.now.bytes.now (N.loads self.now.plan) (Ow.slot_no self.now.header (S.layers self.now.header.shape) p)) }
+    {
+        let mut cells = before;
+        let mut start: usize = 0;
+        for k in 0..sheet::layer_count(self.header.shape) {
+            let count = self.header.planes[k];
+            let span = self.spans[k];
+            if is_among_top(count, self.plan.planes[k], p) {
+                let from = self.at + CELL_BYTES * cells;
+                let n = self.sizes[k];
+                if !is_fine(self.bytes, from, n, span as usize, p + 1 == count) {
+                    return Err(BadLayer(k));
+                }
+                taking.take(self.bytes, from, n, start);
             }
-            Placed::Fine(next) => {
-                cells = next;
-                table = halved(table);
-            }
+            cells += order::span_at(span, count, p) as usize;
+            start += CELL_POINTS * span as usize;
         }
+        Ok(cells)
     }
-    Loaded::Fine
+
+    // All planes of the plan, each checked and taken, until one is not fine.
+    pub(crate) fn all<T: Taking>(&self, taking: &mut T) -> Result<(), BadLayer>
+        requires { T.Kept (replicate words_most 0) Hd.places_most taking.old }
+        ensures answer { result ≡ W.loaded_as self.now.header self.now.at self.now.bytes.now (N.loads self.now.plan) }
+        ensures kept { IfOk result (λ u. (ws : List ℕ) × (T.Kept ws 0 taking.new × W.Read self.now.header self.now.at self.now.bytes.now (N.loads self.now.plan) ws)) }
+    {
+        let mut cells: usize = 0;
+        for p in (0..MOST_PLACES).rev() {
+            cells = self.place(p, cells, taking)?;
+            taking.descend();
+        }
+        Ok(())
+    }
 }

@@ -1,3 +1,4 @@
+pub mod Ahead
 pub mod CardOrder
 pub mod Tops
 pub mod Whole

@@ -1,9 +1,10 @@
 -- The cells up to a plane's end, as the loops count them: a sum over all the layers that there may be, whose terms are small. They are within the room exactly when their bytes are, so the planes that end within it are the whole ones.
 use mathlib.Core.List.{List}
 use mathlib.Core.Path.{◌≡◌, refl}
-use Prim.Native.Nat.{ℕ, ◌*◌, ◌/◌, ◌<◌, ◌≤◌}
+use Prim.Native.Nat.{ℕ, ◌+◌, ◌*◌, ◌/◌, ◌<◌, ◌≤◌}
 use native.Mathlib.Decide.{dec_lt}
 use native.Mathlib.Nat.{mul-le-mul}
+use native.Mathlib.Numerals.{add-one}
 use native.Mathlib.Omega.{arith}
 use borrow.Author.Tests.{le-leb, lt-leb, lt-ltb, le-ltb}
 use lib.Dec.{leb}
@@ -18,7 +19,7 @@ use Rattle.header.specs.Workings.{plane_cells_most, spans_of}
 use Rattle.order.specs.CardOrder.{planes_before, is_whole, whole}
 use Rattle.order.specs.Workings.{within}
 use Rattle.header.proofs.WellFormed.{WellFormed, all-few, counts_past}
-use Rattle.header.proofs.Totals.{total-most}
+use Rattle.header.proofs.Totals.{total-suc, total-most}
 use Rattle.order.proofs.CardOrder.{cells-through}
 use Rattle.header.proofs.Total.{span-most}
 
@@ -36,6 +37,21 @@ module _ (spans planes : List ℕ) (k : ℕ) where
 
   pub shares-most : Small spans planes → (p n : ℕ) → total (share p) n ≤ n * (plane_cells_most * places_most)
   shares-most small p n = total-most (share p) (plane_cells_most * places_most) n (λ j _. share-most small p j)
+
+  -- one layer more is counted
+  module _ (small : Small spans planes) (p j : ℕ) {span taken : ℕ} (is-span : span ≡ get_or spans j 0) (is-taken : taken ≡ planes_before planes k p j) where
+    own : span * taken ≡ share p j
+    own = rw (is-span, is-taken) refl
+
+    pub own-most : span * taken ≤ plane_cells_most * places_most
+    own-most = omega (arith, own, share-most small p j)
+
+    module _ {cells : ℕ} (so_far : cells ≡ get_or spans k 0 + total (share p) j) where
+      pub cells-most : j < layers_most → cells + span * taken ≤ plane_cells_most + layers_most * (plane_cells_most * places_most)
+      cells-most h = omega (arith, own-most, so_far, (small k).0, shares-most small p j)
+
+      pub one-more : cells + span * taken ≡ get_or spans k 0 + total (share p) (j + 1)
+      one-more = rw (add-one j) (omega (arith, own, so_far, total-suc (share p) j))
 
 -- ---- of a header
 pub header-small : (h : Header) → WellFormed h → length h.planes ≡ layers_most → Small (spans_of h.shape) h.planes

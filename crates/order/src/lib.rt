@@ -16,11 +16,9 @@ fn cells_through(spans: [u64; MOST_LAYERS], planes: [u64; MOST_LAYERS], k: usize
     ensures { result ≡ Wk.cells_through spans planes k p }
 {
     let mut cells = spans[k];
-    for j in 0..MOST_LAYERS {
+    for (j, (span, count)) in spans.iter().zip(planes.iter()).enumerate() {
         let from = if j < k { p } else { p + 1 };
-        if from < planes[j] {
-            cells += spans[j] * (planes[j] - from);
-        }
+        cells += *span * count.saturating_sub(from);
     }
     cells
 }
@@ -54,23 +52,14 @@ struct Found {
 pub fn span_at(span: u64, count: u64, p: u64) -> u64
     ensures { result ≡ cond (ltb p count) span 0 }
 {
-    if p < count {
-        return span;
-    }
-    0
+    if p < count { span } else { 0 }
 }
 
 // 1 where a layer has a plane at place p and it ends within the room; otherwise 0.
 fn whole_count(count: u64, p: u64, end: u64, room: u64) -> u64
     ensures { result ≡ cond (ltb p count) (cond (leb end room) 1 0) 0 }
 {
-    if count <= p {
-        return 0;
-    }
-    if end <= room {
-        return 1;
-    }
-    0
+    u64::from(p < count && end <= room)
 }
 
 // Passes the planes at place p, layer 0 first: one that ends within `room` cells is whole.
@@ -87,28 +76,19 @@ fn whole_at(
 {
     let mut planes = before.planes;
     let mut cells = before.cells;
-    for k in 0..MOST_LAYERS {
+    // k indexes: behind a zip with iter_mut nothing is known of the planes, and the goal `returns` stays open.
+    for (k, whole) in planes.iter_mut().enumerate() {
         cells += span_at(spans[k], counts[k], p);
-        planes[k] += whole_count(counts[k], p, cells, room);
+        *whole += whole_count(counts[k], p, cells, room);
     }
     Found { planes, cells }
-}
-
-fn larger(a: u64, b: u64) -> u64
-    ensures { (a ≤ result) × (b ≤ result) }
-{
-    if a < b { b } else { a }
 }
 
 // A place that no layer has planes at or above: the largest count.
 fn top_of(counts: [u64; MOST_LAYERS]) -> u64
     ensures { (j : ℕ) → j < layers_most → get_or counts j 0 ≤ result }
 {
-    let mut top = 0u64;
-    for k in 0..MOST_LAYERS {
-        top = larger(top, counts[k]);
-    }
-    top
+    counts.into_iter().max().unwrap_or(0)
 }
 
 // The planes that are whole in n bytes behind a header that opening can give; none behind any other.
@@ -127,15 +107,12 @@ pub fn whole_planes(header: Header, n: usize) -> Plan
     }
     let spans = header.spans();
     let mut found = Found { planes, cells: 0 };
-    let mut p = top_of(counts);
-    while 0 < p {
+    for p in (0..top_of(counts)).rev() {
         if room < found.cells {
-            let whole = found.planes;
-            return Plan { planes: whole };
+            break;
         }
-        p -= 1;
         found = whole_at(spans, counts, p, room, found);
     }
-    let whole = found.planes;
-    Plan { planes: whole }
+    let planes = found.planes;
+    Plan { planes }
 }

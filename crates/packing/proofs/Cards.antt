@@ -169,7 +169,7 @@ module _ (sh : Shape) (e : ℕ) (settles : settled sh e ≡ true) (curve : Curve
     step = (settled-yes sh e settles).1
 
     planes-are : planes ≡ counts_for sh qs
-    planes-are = counted ∙ counts_same sh qs ws all each
+    planes-are = counted ∙ counts_same sh ok qs ws all each
 
     -- the header made is the one of the coefficients
     made-is : made ≡ H
@@ -188,7 +188,7 @@ module _ (sh : Shape) (e : ℕ) (settles : settled sh e ≡ true) (curve : Curve
       losses-are : ls ≡ losses_for sh qs
       losses-are =
           told
-          ∙ losses-same sh qs ws all each (λ k. get_or planes k 0) (λ k l. ap (λ (x : List ℕ). get_or x k 0) planes-are ∙ counts-at sh qs k (omega (arith, layers-few right)))
+          ∙ losses-same sh ok qs ws all each (λ k. get_or planes k 0) (λ k l. ap (λ (x : List ℕ). get_or x k 0) planes-are ∙ counts-at sh qs k (omega (arith, layers-few right)))
 
       pub made-fits : TextFits made ls
       made-fits =

@@ -1,5 +1,5 @@
 -- The fewest digits that hold the numbers of some words: digits that hold the least and the greatest hold all between, and the number 0 of the offset is held by any; so the more of the two counts passes the test, and no fewer digits do.
-use mathlib.Core.Path.{◌≡◌, refl, sym, ◌∙◌}
+use mathlib.Core.Path.{◌≡◌, refl, sym, ap, ◌∙◌}
 use mathlib.Core.Bool.{true}
 use mathlib.Core.List.{List}
 use Prim.Native.Nat.{ℕ, suc, ◌+◌, ◌^◌, min, max, ◌<◌, ◌≤◌}
@@ -7,6 +7,11 @@ use native.Mathlib.Nat.{le_refl}
 use native.Mathlib.Decide.{dec_lt, ℕ_discrete}
 use native.Mathlib.Omega.{arith}
 use borrow.Author.Tests.{lt-ltb, le-ltb}
+use lib.IntN.{◌-ℤ◌}
+use mir.Facts.{to_z_pos, to_z-of_z}
+use mir.Syntax.{w32}
+use mir.Val.{to_z, of_z}
+use Rattle.integers.proofs.Machine.{sfits-by}
 use lib.ListN.{length, get_or, set, replicate, length-set}
 use lib.Seq.{ext_get_or, get_or-set_same, get_or-set_other}
 use Rattle.integers.proofs.Bools.{not_yes}
@@ -19,11 +24,11 @@ use Rattle.digits.proofs.Firsts.{first-none, first-only}
 use Rattle.sheet.specs.declared.Shape.{Shape}
 use Rattle.sheet.specs.Limits.{layers_most}
 use Rattle.sheet.specs.Lists.{tabulate}
-use Rattle.sheet.specs.Sheet.{layers, layer_size}
+use Rattle.sheet.specs.Sheet.{layers}
 use Rattle.sheet.proofs.Lists.{length-tabulate, get_or-tabulate, get_or-zeros}
 use Rattle.header.specs.Header.{places_most}
 use Rattle.packing.specs.Planes.{all_below}
-use Rattle.packing.specs.Workings.Words.{offset, number_of, count_of, count_at, block_start}
+use Rattle.packing.specs.Workings.Words.{offset, number_of, count_of, count_at, layer_words}
 use Rattle.packing.proofs.All.{all-by, all-at}
 
 -- ---- d digits hold the number of the word w
@@ -37,16 +42,20 @@ reach-yes d w h = omega (arith, (lit w ⊖ lit offset).is)
 pub reach-by : (d w : ℕ) → Reach d w → Holds d (number_of w)
 reach-by d w h = omega (arith, (lit w ⊖ lit offset).is)
 
--- ---- the least and the greatest of n words and the offset
-pub record Ends (ws : List ℕ) (start n low high : ℕ) : Type 0 where
+-- the digits of a word's number, as they are asked for
+pub digits-of : (w r : ℕ) → w < 2 ^ 31 → r ≡ fewest (to_z w32 (of_z w32 (to_z w32 w -ℤ to_z w32 offset))) → r ≡ fewest (number_of w)
+digits-of w r h e = e ∙ ap fewest (rw (to_z_pos w32 h) (to_z-of_z {w = w32} (sfits-by (lit w ⊖ lit offset) (omega arith))))
+
+-- ---- the least and the greatest of the first n words and the offset
+pub record Ends (ws : List ℕ) (n low high : ℕ) : Type 0 where
   pub below : low ≤ offset
   pub above : offset ≤ high
-  pub least : (i : ℕ) → i < n → low ≤ get_or ws (start + i) 0
-  pub most : (i : ℕ) → i < n → get_or ws (start + i) 0 ≤ high
-  pub reach : (d : ℕ) → ((i : ℕ) → i < n → Reach d (get_or ws (start + i) 0)) → Reach d low × Reach d high
+  pub least : (i : ℕ) → i < n → low ≤ get_or ws i 0
+  pub most : (i : ℕ) → i < n → get_or ws i 0 ≤ high
+  pub reach : (d : ℕ) → ((i : ℕ) → i < n → Reach d (get_or ws i 0)) → Reach d low × Reach d high
 
-module _ (ws : List ℕ) (start : ℕ) where
-  pub ends-none : Ends ws start 0 offset offset
+module _ (ws : List ℕ) where
+  pub ends-none : Ends ws 0 offset offset
   ends-none =
       record {
         below = le_refl offset;
@@ -57,7 +66,7 @@ module _ (ws : List ℕ) (start : ℕ) where
       }
 
   pub ends_more : (n low high low' high' : ℕ)
-      → low' ≡ min low (get_or ws (start + n) 0) → high' ≡ max high (get_or ws (start + n) 0) → Ends ws start n low high → Ends ws start (n + 1) low' high'
+      → low' ≡ min low (get_or ws n 0) → high' ≡ max high (get_or ws n 0) → Ends ws n low high → Ends ws (n + 1) low' high'
   ends_more n low high low' high' el eh e =
       record {
         below = omega (arith, e.below);
@@ -81,18 +90,18 @@ module _ (ws : List ℕ) (start : ℕ) where
       }
 
   -- where 23 digits do not hold the greatest, the count is 24
-  pub count-over : (n low high : ℕ) → Ends ws start n low high → 2 ^ places_most ≤ high → suc places_most ≡ count_of ws start n
+  pub count-over : (n low high : ℕ) → n ≡ length ws → Ends ws n low high → 2 ^ places_most ≤ high → suc places_most ≡ count_of ws
   unfolding count_of
-  count-over n low high e l =
-      sym (first-none (λ d. all_below (λ i. holds d (number_of (get_or ws (start + i) 0))) n) (suc places_most) 0 (λ d _ k.
-      not_yes (all_below (λ i. holds d (number_of (get_or ws (start + i) 0))) n) (λ t.
-      let both = e.reach d (λ i l. reach-yes d (get_or ws (start + i) 0) (holds-yes d (number_of (get_or ws (start + i) 0)) (all-at (λ i. holds d (number_of (get_or ws (start + i) 0))) n t i l))) in
-      omega (arith, (reach-yes places_most high (holds-up d places_most (number_of high) (omega arith) (reach-by d high both.1))).high, range-23))))
+  count-over n low high long e l =
+      rw (← long) (sym (first-none (λ d. all_below (λ i. holds d (number_of (get_or ws i 0))) n) (suc places_most) 0 (λ d _ k.
+      not_yes (all_below (λ i. holds d (number_of (get_or ws i 0))) n) (λ t.
+      let both = e.reach d (λ i l. reach-yes d (get_or ws i 0) (holds-yes d (number_of (get_or ws i 0)) (all-at (λ i. holds d (number_of (get_or ws i 0))) n t i l))) in
+      omega (arith, (reach-yes places_most high (holds-up d places_most (number_of high) (omega arith) (reach-by d high both.1))).high, range-23)))))
 
-  pub count-is : (n low high r : ℕ) → Ends ws start n low high → high < 2 ^ places_most → r ≡ max (fewest (number_of low)) (fewest (number_of high)) → r ≡ count_of ws start n
+  pub count-is : (n low high r : ℕ) → n ≡ length ws → Ends ws n low high → high < 2 ^ places_most → r ≡ max (fewest (number_of low)) (fewest (number_of high)) → r ≡ count_of ws
   unfolding count_of
-  count-is n low high r e small q =
-      first-only (λ d. all_below (λ i. holds d (number_of (get_or ws (start + i) 0))) n) (suc places_most) r few pass least
+  count-is n low high r long e small q =
+      rw (← long) (first-only (λ d. all_below (λ i. holds d (number_of (get_or ws i 0))) n) (suc places_most) r few pass least)
     where
       held : (w : ℕ) → low ≤ w → w ≤ high → Holds places_most (number_of w)
       held w l h = reach-by places_most w (record { low = omega (arith, range-23); high = omega (arith, range-23) })
@@ -105,17 +114,17 @@ module _ (ws : List ℕ) (start : ℕ) where
             fewest-le places_most (number_of high) (held high (omega (arith, e.below, e.above)) (le_refl high)),
           )
 
-      pass : (d : ℕ) → r ≤ d → all_below (λ i. holds d (number_of (get_or ws (start + i) 0))) n ≡ true
+      pass : (d : ℕ) → r ≤ d → all_below (λ i. holds d (number_of (get_or ws i 0))) n ≡ true
       pass d h =
           let a = reach-yes d low (fewest-holds d (number_of low) (omega arith)) in
           let b = reach-yes d high (fewest-holds d (number_of high) (omega arith)) in
-          all-by (λ i. holds d (number_of (get_or ws (start + i) 0))) n (λ i l.
-          let w = get_or ws (start + i) 0 in
+          all-by (λ i. holds d (number_of (get_or ws i 0))) n (λ i l.
+          let w = get_or ws i 0 in
           holds_by d (number_of w) (reach-by d w (record { low = omega (arith, a.low, e.least i l); high = omega (arith, b.high, e.most i l) })))
 
-      least : (d : ℕ) → all_below (λ i. holds d (number_of (get_or ws (start + i) 0))) n ≡ true → r ≤ d
+      least : (d : ℕ) → all_below (λ i. holds d (number_of (get_or ws i 0))) n ≡ true → r ≤ d
       least d t =
-          let both = e.reach d (λ i l. reach-yes d (get_or ws (start + i) 0) (holds-yes d (number_of (get_or ws (start + i) 0)) (all-at (λ i. holds d (number_of (get_or ws (start + i) 0))) n t i l))) in
+          let both = e.reach d (λ i l. reach-yes d (get_or ws i 0) (holds-yes d (number_of (get_or ws i 0)) (all-at (λ i. holds d (number_of (get_or ws i 0))) n t i l))) in
           omega (arith, fewest-le d (number_of low) (reach-by d low both.0), fewest-le d (number_of high) (reach-by d high both.1))
 
 -- ---- the counts of the layers before k
@@ -128,7 +137,7 @@ module _ (sh : Shape) (ws : List ℕ) where
   pub counted_none : CountedTo sh ws 0 (replicate layers_most 0)
   counted_none = record { long = refl; done = λ j h. absurd (let z : ⊥ = omega arith in z); left = λ j _. get_or-zeros layers_most j }
 
-  pub counted-more : (k v : ℕ) (ps : List ℕ) → k < layers sh → k < layers_most → v ≡ count_of ws (block_start sh k) (layer_size sh k) → CountedTo sh ws k ps → CountedTo sh ws (k + 1) (set ps k v)
+  pub counted-more : (k v : ℕ) (ps : List ℕ) → k < layers sh → k < layers_most → v ≡ count_of (layer_words sh ws k) → CountedTo sh ws k ps → CountedTo sh ws (k + 1) (set ps k v)
   unfolding count_at
   counted-more k v ps h l e g =
       record {

@@ -2,7 +2,7 @@
 use mathlib.Core.Path.{◌≡◌, sym, ap, ◌∙◌}
 use mathlib.Core.Bool.{Bool, true, false}
 use mathlib.Core.List.{List}
-use Prim.Native.Nat.{ℕ, suc, ◌+◌, ◌^◌, ◌<◌, ◌≤◌}
+use Prim.Native.Nat.{ℕ, suc, ◌^◌, ◌<◌, ◌≤◌}
 use native.Mathlib.Decide.{dec_lt}
 use native.Mathlib.Omega.{arith}
 use borrow.Author.Tests.{lt-ltb}
@@ -28,7 +28,8 @@ use Rattle.header.specs.Header.{places_most}
 use Rattle.header.specs.Plan.{first_over}
 use Rattle.header.proofs.Over.{over_none, none_over}
 use Rattle.packing.specs.Planes.{all_below, enough, planes_for, all_held}
-use Rattle.packing.specs.Workings.Words.{word_of, number_of, block_start, Gathered, count_of, count_at}
+use Rattle.packing.specs.Workings.Words.{word_of, number_of, layer_words, Gathered, count_of, count_at}
+use Rattle.packing.proofs.Blocks.{layer-long}
 use Rattle.packing.proofs.All.{all-at, all-by}
 use Rattle.packing.proofs.Counting.{reach-yes}
 use Rattle.packing.proofs.FlatPlanes.{zero-holds}
@@ -56,11 +57,11 @@ module _ (sh : Shape) (ok : accepted sh ≡ true) (qs : List ℤ) (full : length
   layer-held : (k : ℕ) → k < layers sh → count_at sh ws k ≤ places_most → (i : ℕ) → i < layer_size sh k → holds places_most (at qs (point_of sh k i)) ≡ true
   unfolding count_at count_of
   layer-held k hk few i hi =
-      let t : ℕ → Bool = λ d. all_below (λ i. holds d (number_of (get_or ws (block_start sh k + i) 0))) (layer_size sh k) in
+      let t : ℕ → Bool = λ d. all_below (λ i. holds d (number_of (get_or (layer_words sh ws k) i 0))) (length (layer_words sh ws k)) in
       let n = first_from t (suc places_most) 0 in
-      let w = get_or ws (block_start sh k + i) 0 in
+      let w = get_or (layer_words sh ws k) i 0 in
       let low : n ≤ places_most = rw (lt-ltb k (layers sh) hk) at few in
-      let here = holds-yes n (number_of w) (all-at (λ i. holds n (number_of (get_or ws (block_start sh k + i) 0))) (layer_size sh k) (first-is t (suc places_most) 0 (omega arith)) i hi) in
+      let here = holds-yes n (number_of w) (all-at (λ i. holds n (number_of (get_or (layer_words sh ws k) i 0))) (length (layer_words sh ws k)) (first-is t (suc places_most) 0 (omega arith)) i (omega (arith, hi, layer-long sh ok ws k g.long hk))) in
       let reach = reach-yes places_most w (holds-up n places_most (number_of w) low here) in
       let e = word_at sh qs ws g k i hk hi in
       word_held (at qs (point_of sh k i)) (omega (arith, reach.high, range-23))
@@ -100,7 +101,7 @@ module _ (sh : Shape) (ok : accepted sh ≡ true) (qs : List ℤ) (full : length
     held_none l =
         not_yes (all_below (λ j. holds places_most (at qs j)) (length qs)) (λ y.
         let held : (p : ℕ) → holds places_most (at qs p) ≡ true = λ p. each-held qs y p in
-        let none : over ≡ layers_most = none_over limit (λ k. get_or planes k 0) (λ k m. omega (arith, count_at_lem k m, count_same sh qs ws g held k, planes-few sh qs k, get_or-replicate layers_most k places_most 0 m)) in
+        let none : over ≡ layers_most = none_over limit (λ k. get_or planes k 0) (λ k m. omega (arith, count_at_lem k m, count_same sh ok qs ws g held k, planes-few sh qs k, get_or-replicate layers_most k places_most 0 m)) in
         omega arith)
 
     pub held_all : over ≡ layers_most → all_held qs ≡ true

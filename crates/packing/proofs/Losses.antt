@@ -15,23 +15,24 @@ use Rattle.header.specs.Header.{places_most}
 use Rattle.header.specs.Losses.{laid}
 use Rattle.header.proofs.Laid.{laid_same}
 use Rattle.packing.specs.Planes.{planes_for, measured_loss, losses_for}
-use Rattle.packing.specs.Workings.Words.{block_start, Gathered, Block, measured, measured_at}
-use Rattle.packing.proofs.Blocks.{layer-room}
+use Rattle.packing.specs.Workings.Words.{layer_words, Gathered, Small, measured, measured_at}
+use Rattle.packing.proofs.Blocks.{layer-long}
 use Rattle.packing.proofs.Needed.{word_small, word_at, number_at}
 
 -- THE LOSSES OF THE WORDS are those of the coefficients
-module _ (sh : Shape) (qs : List ℤ) (ws : List ℕ) (g : Gathered sh qs ws) (held : (p : ℕ) → holds places_most (at qs p) ≡ true) where
+module _ (sh : Shape) (ok : accepted sh ≡ true) (qs : List ℤ) (ws : List ℕ) (g : Gathered sh qs ws) (held : (p : ℕ) → holds places_most (at qs p) ≡ true) where
   -- they are small
-  pub block_held : accepted sh ≡ true → (k : ℕ) → k < layers sh → Block ws (block_start sh k) (layer_size sh k)
-  block_held ok k l =
+  pub block_held : (k : ℕ) → k < layers sh → Small (layer_words sh ws k)
+  block_held k l =
       record {
-        inside = omega (arith, g.long, layer-room sh ok k l);
-        small = λ i m. rw (word_at sh qs ws g k i l m) (word_small (at qs (point_of sh k i)) (held (point_of sh k i)));
+        below = λ i m.
+            let h : i < layer_size sh k = omega (arith, layer-long sh ok ws k g.long l) in
+            rw (word_at sh qs ws g k i l h) (word_small (at qs (point_of sh k i)) (held (point_of sh k i)));
       }
 
   measured-is : (k d : ℕ) → k < layers sh → measured_at sh ws k d ≡ measured_loss sh qs k d
   unfolding measured measured_loss
-  measured-is k d l = largest-same _ _ (layer_size sh k) (λ i m. ap (away d) (number_at sh qs ws g held k i l m))
+  measured-is k d l = rw (layer-long sh ok ws k g.long l) (largest-same _ _ (layer_size sh k) (λ i m. ap (away d) (number_at sh ok qs ws g held k i l m)))
 
   pub losses-same : (count : ℕ → ℕ) → ((k : ℕ) → k < layers sh → count k ≡ planes_for sh qs k) → laid (measured_at sh ws) count (layers sh) ≡ losses_for sh qs
   unfolding losses_for

@@ -7,7 +7,7 @@ use native.Mathlib.Omega.{arith}
 use borrow.Author.Tests.{lt-ltb, ltb-true}
 use lib.Dec.{ltb}
 use lib.IntN.{ℤ, pos, nat_abs, ◌+ℤ◌}
-use lib.ListN.{get_or}
+use lib.ListN.{length, get_or}
 use Rattle.integers.specs.Distance.{up, down}
 use Rattle.integers.proofs.Bools.{cond-ap}
 use Rattle.integers.proofs.Diff.{#, lit, ◌⊞◌, ◌⊖◌}
@@ -19,13 +19,14 @@ use Rattle.digits.proofs.Range.{Holds, holds-yes, holds_by, range-23}
 use Rattle.sheet.specs.declared.Shape.{Shape}
 use Rattle.sheet.specs.Limits.{layers_most}
 use Rattle.sheet.specs.Lists.{at, tabulate}
-use Rattle.sheet.specs.Sheet.{layers, layer_size, point_of, place_in}
+use Rattle.sheet.specs.Sheet.{accepted, layers, layer_size, point_of, place_in}
 use Rattle.sheet.proofs.Lists.{tabulate-same}
 use Rattle.sheet.proofs.Places.{point-on, point-in, place-in, point-place}
 use Rattle.header.specs.Header.{places_most}
 use Rattle.header.proofs.Total.{plane-room}
 use Rattle.packing.specs.Planes.{all_below, enough, planes_for, counts_for}
-use Rattle.packing.specs.Workings.Words.{offset, word_of, number_of, block_start, Gathered, count_of, count_at}
+use Rattle.packing.specs.Workings.Words.{offset, word_of, number_of, layer_words, Gathered, count_of, count_at}
+use Rattle.packing.proofs.Blocks.{layer-long, layer-word}
 use Rattle.packing.proofs.All.{all-by, all-at, both_ways}
 use Rattle.packing.proofs.HeldLayers.{enough-yes, enough-by}
 
@@ -44,20 +45,20 @@ module _ (q : ℤ) (h : holds places_most q ≡ true) where
   word_small = rw h (omega (arith, holds-yes places_most q h, range-23, unsigned))
 
 -- a layer's word is that of its point's coefficient
-pub word_at : (sh : Shape) (qs : List ℤ) (ws : List ℕ) → Gathered sh qs ws → (k i : ℕ) → k < layers sh → i < layer_size sh k → get_or ws (block_start sh k + i) 0 ≡ word_of (at qs (point_of sh k i))
-word_at sh qs ws g k i hk hi = g.word k i hk (omega (arith, plane-room sh k)) ∙ rw (lt-ltb i (layer_size sh k) hi)
+pub word_at : (sh : Shape) (qs : List ℤ) (ws : List ℕ) → Gathered sh qs ws → (k i : ℕ) → k < layers sh → i < layer_size sh k → get_or (layer_words sh ws k) i 0 ≡ word_of (at qs (point_of sh k i))
+word_at sh qs ws g k i hk hi = layer-word sh ws k i hi ∙ g.word k i hk (omega (arith, plane-room sh k)) ∙ rw (lt-ltb i (layer_size sh k) hi)
 
-module _ (sh : Shape) (qs : List ℤ) (ws : List ℕ) (g : Gathered sh qs ws) (held : (p : ℕ) → holds places_most (at qs p) ≡ true) where
+module _ (sh : Shape) (ok : accepted sh ≡ true) (qs : List ℤ) (ws : List ℕ) (g : Gathered sh qs ws) (held : (p : ℕ) → holds places_most (at qs p) ≡ true) where
   -- ---- and its number is the coefficient
-  pub number_at : (k i : ℕ) → k < layers sh → i < layer_size sh k → number_of (get_or ws (block_start sh k + i) 0) ≡ at qs (point_of sh k i)
+  pub number_at : (k i : ℕ) → k < layers sh → i < layer_size sh k → number_of (get_or (layer_words sh ws k) i 0) ≡ at qs (point_of sh k i)
   number_at k i hk hi = ap number_of (word_at sh qs ws g k i hk hi) ∙ word_number (at qs (point_of sh k i)) (held (point_of sh k i))
 
   -- ---- so the tests are the same
-  test-same : (k : ℕ) → k < layers sh → (d : ℕ) → all_below (λ i. holds d (number_of (get_or ws (block_start sh k + i) 0))) (layer_size sh k) ≡ enough sh qs k d
-  test-same k hk d = both_ways (all_below t (layer_size sh k)) (enough sh qs k d) there back
+  test-same : (k : ℕ) → k < layers sh → (d : ℕ) → all_below (λ i. holds d (number_of (get_or (layer_words sh ws k) i 0))) (length (layer_words sh ws k)) ≡ enough sh qs k d
+  test-same k hk d = rw (layer-long sh ok ws k g.long hk) (both_ways (all_below t (layer_size sh k)) (enough sh qs k d) there back)
     where
       t : ℕ → Bool
-      t i = holds d (number_of (get_or ws (block_start sh k + i) 0))
+      t i = holds d (number_of (get_or (layer_words sh ws k) i 0))
 
       there : all_below t (layer_size sh k) ≡ true → enough sh qs k d ≡ true
       there e =
@@ -76,7 +77,7 @@ module _ (sh : Shape) (qs : List ℤ) (ws : List ℕ) (g : Gathered sh qs ws) (h
   count_same k =
       cond-ap (ltb k (layers sh))
       (λ l.
-      let t : ℕ → Bool = λ d. all_below (λ i. holds d (number_of (get_or ws (block_start sh k + i) 0))) (layer_size sh k) in
+      let t : ℕ → Bool = λ d. all_below (λ i. holds d (number_of (get_or (layer_words sh ws k) i 0))) (length (layer_words sh ws k)) in
       let u = enough sh qs k in
       let n = first_from u places_most 0 in
       let same = test-same k (ltb-true k (layers sh) l) in

@@ -1,14 +1,10 @@
 -- How many rows have those of every layer that has planes, layer by layer: as many as end with this layer where it has planes, and otherwise as many as for those before it.
-use mathlib.Core.Bool.{cond}
 use mathlib.Core.List.{List}
 use mathlib.Core.Path.{◌≡◌}
 use Prim.Native.Nat.{ℕ, suc, ◌+◌, ◌%◌, ◌<◌, ◌≤◌}
 use native.Mathlib.Decide.{dec_lt}
 use native.Mathlib.Omega.{arith}
-use borrow.Author.Tests.{ltb-false}
-use lib.Dec.{ltb}
 use lib.ListN.{get_or}
-use Rattle.integers.proofs.Bools.{by}
 use Rattle.sheet.specs.declared.Shape.{Shape}
 use Rattle.sheet.specs.Sheet.{layers}
 use Rattle.packing.specs.Workings.Words.{block_start, RowsEnd}
@@ -24,25 +20,26 @@ module _ (sh : Shape) (planes : List ℕ) where
   pub rows_none : RowsTo 0 0
   rows_none = record { whole = omega arith; inside = omega arith; all = λ j l _. absurd (let z : ⊥ = omega arith in z) }
 
-  pub rows_more : (k n : ℕ) → RowsTo k n → RowsTo (k + 1) (cond (ltb 0 (get_or planes k 0)) (block_start sh (k + 1)) n)
-  rows_more k n r =
-      by (ltb 0 (get_or planes k 0))
-      (λ t. rw t
-      (record {
-        whole = omega (arith, block-whole sh (k + 1));
-        inside = omega arith;
-        all = λ j l m. omega (arith, block-rises sh (suc j) (k + 1) (omega arith));
-      }))
-      (λ f. rw f
-      (record {
-        whole = r.whole;
-        inside = omega (arith, r.inside, block-next sh k);
+  -- a layer that has planes, and one that has none
+  pub rows_yes : (k n end : ℕ) → RowsTo k n → end ≡ block_start sh (k + 1) → RowsTo (k + 1) end
+  rows_yes k n end r e =
+      record {
+        whole = omega (arith, e, block-whole sh (k + 1));
+        inside = omega (arith, e);
+        all = λ j l m. omega (arith, e, block-rises sh (suc j) (k + 1) (omega arith));
+      }
+
+  pub rows_no : (k n end : ℕ) → RowsTo k n → get_or planes k 0 ≤ 0 → end ≡ n → RowsTo (k + 1) end
+  rows_no k n end r none e =
+      record {
+        whole = rw e r.whole;
+        inside = omega (arith, e, r.inside, block-next sh k);
         all = λ j l m.
             elim (dec_lt j k) [
-              | yes b ↦ r.all j b m
-              | no b ↦ let e : j ≡ k = omega arith in absurd (let z : ⊥ = omega (arith, ltb-false 0 (get_or planes k 0) f, rw e at m) in z)
+              | yes b ↦ rw e (r.all j b m)
+              | no b ↦ let q : j ≡ k = omega arith in absurd (let z : ⊥ = omega (arith, none, rw q at m) in z)
             ];
-      }))
+      }
 
   pub rows_all : (k n : ℕ) → k ≡ layers sh → RowsTo k n → RowsEnd sh planes n
   rows_all k n e r = record { whole = r.whole; inside = rw e at r.inside; all = λ j l m. r.all j (omega arith) m }

@@ -4,6 +4,7 @@
 mod measuring;
 mod putting;
 mod rows;
+mod starts;
 mod words;
 mod writing;
 

@@ -11,6 +11,7 @@ use crate::MOST_WORDS;
 use crate::measuring::measure_layers;
 use crate::putting::put_body;
 use crate::rows::{rows_end, turn};
+use crate::starts::{BLOCKS, block_starts};
 use crate::words::{OFFSET, counts, gather};
 use header::{CELL_BYTES, Header, MOST_LOSSES, MOST_PLACES};
 use sheet::{Curve, MOST_LAYERS, MOST_STEP, Shape};
@@ -20,8 +21,14 @@ const TEXT_ROOM: usize = 4096;
 
 // The text of a header with its losses and the planes of rows behind it, at the front of the output; answers their length. Their length is taken first: where
 // they do not fit, nothing is put.
-fn put_rows(rows: &[u32], header: Header, losses: &[u64], output: &mut [u8]) -> usize
-    requires { (O.well_formed header ≡ true) × (length rows.now ≡ W.words_most) × W.TextFits header losses.now }
+fn put_rows(
+    rows: &[u32],
+    header: Header,
+    starts: [usize; BLOCKS],
+    losses: &[u64],
+    output: &mut [u8],
+) -> usize
+    requires { (O.well_formed header ≡ true) × W.Starts header.shape starts × (length rows.now ≡ W.words_most) × W.TextFits header losses.now }
     ensures { (result ≡ Wk.after output.old 0 (W.flat_card header losses.now rows.now)) × (output.new ≡ Wk.putting output.old 0 (W.flat_card header losses.now rows.now)) }
 {
     let mut bytes = [0u8; TEXT_ROOM];
@@ -30,7 +37,7 @@ fn put_rows(rows: &[u32], header: Header, losses: &[u64], output: &mut [u8]) -> 
         return 0;
     }
     text::put(output, 0, &bytes[..length]);
-    put_body(rows, header, output, length)
+    put_body(rows, header, starts, output, length)
 }
 
 // The card of coefficients, by way of the words: the counts of the words tell whether 23 digits hold all of them. Once they are measured, rows take their place.
@@ -45,15 +52,16 @@ fn put_card(
     requires { (settled shape step ≡ true) × (full shape coefficients.now ≡ true) × (words.old ≡ replicate W.words_most W.offset) }
     ensures { (result ≡ Wk.after output.old 0 (C.card_for shape curve step coefficients.now)) × (output.new ≡ Wk.putting output.old 0 (C.card_for shape curve step coefficients.now)) }
 {
-    gather(coefficients, shape, words);
-    let planes = counts(words, shape);
-    if header::first_over([MOST_PLACES; MOST_LAYERS], planes) < MOST_LAYERS {
+    let starts = block_starts(shape);
+    gather(coefficients, shape, starts, words);
+    let planes = counts(words, shape, starts);
+    if header::first_over([MOST_PLACES; MOST_LAYERS], planes).is_some() {
         return 0;
     }
     let cells = header::total_cells(shape, planes);
     let mut losses = [0u64; MOST_LOSSES];
-    let told = measure_layers(words, shape, planes, &mut losses);
-    turn(words, rows_end(shape, planes));
+    let told = measure_layers(words, shape, starts, planes, &mut losses);
+    turn(words, rows_end(shape, starts, planes));
     put_rows(
         words,
         Header {
@@ -63,6 +71,7 @@ fn put_card(
             planes,
             cells,
         },
+        starts,
         &losses[..told],
         output,
     )

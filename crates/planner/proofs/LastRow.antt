@@ -1,14 +1,20 @@
 -- The last row, searched from its first entry on: a place is the first within a limit where none before it is, and the last one is where none is at all; the first of the least moves on only where an entry is less. What is found among the entries holds of what they stand for.
 use mathlib.Core.List.{List}
 use mathlib.Core.Path.{◌≡◌, ap}
-use Prim.Native.Nat.{ℕ, ◌+◌, ◌*◌, ◌≤◌, ◌<◌}
+use Prim.Native.Nat.{ℕ, ◌+◌, ◌*◌, ◌≤◌, ◌<◌, max}
 use native.Mathlib.Nat.{le_refl}
 use native.Mathlib.Decide.{dec_lt}
 use native.Mathlib.Omega.{arith}
 use borrow.Author.Count.{below_more}
-use lib.ListN.{get_or}
+use borrow.Author.Rules.{rules}
+use lib.ListN.{length, get_or, take, drop}
+use Rattle.std.proofs.lemmas.List.{places}
 use Rattle.header.specs.Plan.{layers_most}
 use Rattle.planner.specs.Workings.Table.{Layers, Rows, FirstWithin, LeastWithin, row_length, best}
+
+-- ---- a part of a row is a part of the table
+pub row-entry : (t : List ℕ) (a m c : ℕ) → c < m → a + m ≤ length t → get_or (take m (drop a t)) c 0 ≡ get_or t (a + c) 0
+row-entry t a m c l h = search (rules, places)
 
 -- ---- the first within a limit
 module _ (f : ℕ → ℕ) (limit c : ℕ) (above : (b : ℕ) → b < c → limit < f b) where
@@ -33,29 +39,23 @@ pub record LeastBelow (f : ℕ → ℕ) (c at : ℕ) : Type 0 where
   pub before : (b : ℕ) → b < at → f at < f b
   pub least : (b : ℕ) → b < c → f at ≤ f b
 
-pub least_start : (f : ℕ → ℕ) → LeastBelow f 1 0
-least_start f =
-    record {
-      inside = omega arith;
-      before = λ b l. absurd (let e : ⊥ = omega arith in e);
-      least = λ b l. let z : b ≡ 0 = omega arith in omega (arith, ap f z);
-    }
-
-module _ (f : ℕ → ℕ) (c at : ℕ) (i : LeastBelow f c at) where
-  pub least-moves : f c < f at → LeastBelow f (c + 1) c
+-- a turn looks at place c; the first place stands from the start
+module _ (f : ℕ → ℕ) (c at : ℕ) (i : LeastBelow f (max 1 c) at) where
+  pub least-moves : f c < f at → LeastBelow f (max 1 (c + 1)) c
   least-moves h =
       record {
         inside = omega arith;
-        before = λ b l. omega (arith, i.least b l);
-        least = below_more (λ (b : ℕ). f c ≤ f b) c (λ b l. omega (arith, i.least b l)) (le_refl (f c));
+        before = λ b l. omega (arith, i.least b (omega arith));
+        least = λ b l. below_more (λ (b : ℕ). f c ≤ f b) c (λ b l. omega (arith, i.least b (omega arith))) (le_refl (f c)) b (omega arith);
       }
 
-  pub least_stays : f at ≤ f c → LeastBelow f (c + 1) at
+  pub least_stays : f at ≤ f c → LeastBelow f (max 1 (c + 1)) at
   least_stays h =
-      record { inside = omega (arith, i.inside); before = i.before; least = below_more (λ (b : ℕ). f at ≤ f b) c i.least h }
-
-  pub least-all : (top : ℕ) → c ≡ top + 1 → LeastWithin f top at
-  least-all top e = record { inside = omega (arith, i.inside); before = i.before; least = λ b l. i.least b (omega arith) }
+      record {
+        inside = omega (arith, i.inside);
+        before = i.before;
+        least = λ b l. below_more (λ (b : ℕ). f at ≤ f b) c (λ b l. i.least b (omega arith)) h b (omega arith);
+      }
 
 -- ---- the entries are the least that the layers can stand at
 module _ (L : Layers) (t : List ℕ) (rows : Rows L t layers_most) where

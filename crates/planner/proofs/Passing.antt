@@ -1,14 +1,16 @@
 -- One pass over a row: each entry becomes the lesser of itself and of what an entry of the row before is carried to with the planes' charge, and no other entry changes. So one more count of planes is tried: below its cells no choice fits, and above what the row before reaches nothing stands.
 use mathlib.Core.Bool.{true}
 use mathlib.Core.List.{List}
-use mathlib.Core.Path.{◌≡◌, refl, ap, ◌∙◌}
+use mathlib.Core.Path.{◌≡◌, ap, ◌∙◌}
 use Prim.Native.Nat.{ℕ, suc, ◌+◌, ◌-◌, ◌*◌, ◌≤◌, ◌<◌, min}
-use native.Mathlib.Nat.{le_refl, mul-le-mul_right}
+use native.Mathlib.Nat.{mul-le-mul_right}
 use native.Mathlib.Decide.{dec_lt}
 use native.Mathlib.Omega.{arith}
-use borrow.Author.Count.{below_none, below_more}
-use lib.ListN.{length, get_or, set, length-set}
-use lib.Seq.{get_or-set_same, get_or-set_other}
+use Rattle.std.proofs.Common.{zero-add}
+use lib.ListN.{length, get_or, take, drop, length-take, length-drop}
+use borrow.Rule.Slice.PartMut.{put_mid}
+use borrow.Author.Rules.{rules}
+use Rattle.std.proofs.lemmas.List.{places}
 use Rattle.header.specs.declared.Header.{Header}
 use Rattle.header.specs.Header.{planes_of}
 use Rattle.header.specs.Workings.{cells_most, cells_at}
@@ -18,22 +20,20 @@ use Rattle.planner.specs.Workings.Table.{Layers, layers_of, Tried, Passed, cells
 use Rattle.planner.proofs.RisingCarry.{Rising, carry-up}
 use Rattle.planner.proofs.Entries.{least-suc, least-most, choice-fits, choice-over, best_none, reach-most}
 
-module _ (f : ℕ → ℕ) (to : ℕ) (t₀ : List ℕ) where
-  pub pass-none : Passed f to t₀ t₀ 0
-  pass-none = record { long = refl; done = below_none _; below = λ i l. refl; above = λ i l. refl }
-
-  pub pass-more :
-      (t : List ℕ) (c v : ℕ) → Passed f to t₀ t c → to + c < length t
-      → v ≡ min (get_or t (to + c) 0) (f c) → Passed f to t₀ (set t (to + c) v) (c + 1)
-  pass-more t c v p h e =
-      record {
-        long = length-set t (to + c) v ∙ p.long;
-        done = below_more (λ (b : ℕ). get_or (set t (to + c) v) (to + b) 0 ≡ min (get_or t₀ (to + b) 0) (f b)) c
-            (λ b m. get_or-set_other t (to + c) (to + b) v 0 (omega arith) ∙ p.done b m)
-            (get_or-set_same t (to + c) v 0 h ∙ e ∙ rw (p.above (to + c) (le_refl (to + c))));
-        below = λ i m. get_or-set_other t (to + c) i v 0 (omega arith) ∙ p.below i m;
-        above = λ i m. get_or-set_other t (to + c) i v 0 (omega arith) ∙ p.above i (omega arith);
-      }
+-- a pass over a part of a table, which has m entries, is one over the table
+pub pass-part : (f : ℕ → ℕ) (to n m : ℕ) (t₀ part : List ℕ) → m ≡ n → to + n ≤ length t₀ → Passed f 0 (take m (drop to t₀)) part (length (take m (drop to t₀))) → Passed f to t₀ (put_mid to m t₀ part) n
+pass-part f to n m t₀ part e h p =
+    let all : length (take m (drop to t₀)) ≡ n = omega (arith, length-take m (drop to t₀), length-drop to t₀) in
+    let many : length part ≡ n = omega (arith, p.long) in
+    record {
+      long = search (rules, places);
+      done = λ b l.
+          let new : get_or (put_mid to m t₀ part) (to + b) 0 ≡ get_or part b 0 = search (rules, places) in
+          let old : get_or (take m (drop to t₀)) b 0 ≡ get_or t₀ (to + b) 0 = search (rules, places) in
+          new ∙ (rw zero-add at (p.done b (omega arith))) ∙ ap (λ (x : ℕ). min x (f b)) old;
+      below = λ i l. search (rules, places);
+      above = λ i l. search (rules, places);
+    }
 
 -- the same places by other names
 pub pass-as : (f : ℕ → ℕ) (to to' : ℕ) (t₀ t : List ℕ) (c c' : ℕ) → to ≡ to' → c ≡ c' → Passed f to t₀ t c → Passed f to' t₀ t c'

@@ -1,8 +1,9 @@
 -- The planner (docs/CARD.md, "The planner"): which plan of a card is the best one, said by looking at every plan of it; `ls` are the numbers of its line of losses. How it is found is the code's affair.
-use Rattle.std.specs.Prelude.{Bool, false, cond, ◌&&◌, ◌||◌, List, [], ◌∷◌, ◌++◌, ◌≡◌, ℕ, zero, suc, ◌≤◌, ltb, leb, eqb, length, get_or}
+use Rattle.std.specs.Prelude.{Bool, false, cond, ◌&&◌, ◌||◌, List, [], ◌∷◌, ◌++◌, ◌≡◌, ℕ, zero, suc, ◌≤◌, ltb, leb, eqb, length, get_or, Result, Ok, Err}
 use Rattle.header.specs.declared.Header.{Header}
 use Rattle.header.specs.declared.Plan.{Plan}
 use Rattle.header.specs.declared.Details.{Details}
+use Rattle.header.specs.declared.Refusal.{Refusal}
 use Rattle.header.specs.Refusals.{refusal, details_of}
 use Rattle.header.specs.Header.{planes_of, cells_of}
 use Rattle.header.specs.Losses.{told}
@@ -116,5 +117,6 @@ unfoldable pub by_cells : List ℕ → ℕ → Planning
 by_cells bs most = planned_from (opening bs) (λ h ls. found h ls (best_by_cells h ls most))
 
 -- the code's answer in these terms
-abbrev pub as_planning : Planned → Planning
-as_planning p = record { refused = details_of p.refusal; plan = p.plan; cells = p.cells; figure = p.figure }
+abbrev pub as_planning : Result Planned Refusal → Planning
+as_planning (Ok p) = record { refused = refusal 0 0 0; plan = p.plan; cells = p.cells; figure = p.figure }
+as_planning (Err r) = not_planned (details_of r)

@@ -1,6 +1,5 @@
 // Searching the table's last row, and the walk back from there to a plan.
-ghost use Rattle.std.specs.Prelude.{◌≡◌, true, cond, ℕ, suc, ◌+◌, ◌-◌, ◌*◌, ◌<◌, ◌≤◌, leb, length, get_or};
-ghost use Rattle.header.specs.Refusals as R;
+ghost use Rattle.std.specs.Prelude.{◌≡◌, true, cond, ℕ, suc, ◌+◌, ◌-◌, ◌*◌, ◌<◌, ◌≤◌, leb, length, get_or, Ok};
 ghost use Rattle.header.specs.Header as Hd;
 ghost use Rattle.header.specs.Workings as W;
 ghost use Rattle.header.specs.Plan.{layers_most};
@@ -12,28 +11,21 @@ ghost use Rattle.planner.specs.Workings.Table as T;
 use crate::Planned;
 use crate::table::{NONE, ROW, TABLE, fill, firsts_of};
 use figure::Rule;
-use header::{Header, MOST_CELLS, MOST_LAYERS, Plan, Refusal};
+use header::{Header, MOST_CELLS, MOST_LAYERS, Plan};
 
 // The most that a plan may stand at by the limit, below NONE.
 fn room_of(step: u64, limit: u64) -> u64
     requires { step ≤ limit }
     ensures { T.Room step limit result }
 {
-    let room = limit - step;
-    if room < NONE {
-        return room;
-    }
-    NONE - 1
+    (limit - step).min(NONE - 1)
 }
 
 // The last entry of a row that is for at most so many cells.
 fn row_end(most: u64) -> usize
     ensures { T.RowEnd most result }
 {
-    if most < MOST_CELLS as u64 {
-        return most as usize;
-    }
-    MOST_CELLS
+    most.min(MOST_CELLS as u64) as usize
 }
 
 // The first count of cells whose entry in the last row is within the room.
@@ -41,8 +33,9 @@ fn first_within(t: &[u64], room: u64) -> usize
     requires { length t.now ≡ T.table_length }
     ensures { T.FirstWithin (λ c. get_or t.now (layers_most * T.row_length + c) 0) room result }
 {
-    for c in 0..MOST_CELLS {
-        if t[MOST_LAYERS * ROW + c] <= room {
+    let row = &t[MOST_LAYERS * ROW..];
+    for (c, standing) in row.iter().enumerate() {
+        if *standing <= room {
             return c;
         }
     }
@@ -54,9 +47,10 @@ fn least_within(t: &[u64], top: usize) -> usize
     requires { (length t.now ≡ T.table_length) × (top < T.row_length) }
     ensures { T.LeastWithin (λ c. get_or t.now (layers_most * T.row_length + c) 0) top result }
 {
+    let row = &t[MOST_LAYERS * ROW..];
     let mut at: usize = 0;
-    for c in 1..top + 1 {
-        if t[MOST_LAYERS * ROW + c] < t[MOST_LAYERS * ROW + at] {
+    for (c, standing) in row[..top + 1].iter().enumerate() {
+        if *standing < row[at] {
             at = c;
         }
     }
@@ -113,9 +107,8 @@ fn trace(t: &[u64], header: Header, losses: &[u32], size: usize) -> [u64; MOST_L
     let firsts = firsts_of(header);
     let mut planes = [0u64; MOST_LAYERS];
     let mut c = size;
-    let mut k = MOST_LAYERS;
-    while 0 < k {
-        k -= 1;
+    // k is passed on; the three arrays zipped and reversed are no plainer.
+    for k in (0..MOST_LAYERS).rev() {
         let n = preferred(t, header, losses, k, firsts[k], spans[k], c);
         planes[k] = n;
         c -= (n * spans[k]) as usize;
@@ -129,12 +122,11 @@ fn plan_in(t: &[u64], header: Header, losses: &[u32], size: usize) -> Planned
     requires rows { T.Rows (T.layers_of header losses.now) t.now layers_most }
     requires size_bound { T.best (T.layers_of header losses.now) layers_most size < T.none }
     ensures traced { T.Traced (T.layers_of header losses.now) layers_most size (N.counts result.plan.planes) }
-    ensures answers { (R.details_of result.refusal ≡ R.refusal 0 0 0) × (result.cells ≡ size) × (result.figure ≡ header.step + T.best (T.layers_of header losses.now) layers_most size) }
+    ensures answers { (result.cells ≡ size) × (result.figure ≡ header.step + T.best (T.layers_of header losses.now) layers_most size) }
 {
     let planes = trace(t, header, losses, size);
     let figure = header.step + t[MOST_LAYERS * ROW + size];
     Planned {
-        refusal: Refusal::Accepted,
         plan: Plan { planes },
         cells: size as u64,
         figure,
@@ -144,7 +136,7 @@ fn plan_in(t: &[u64], header: Header, losses: &[u32], size: usize) -> Planned
 // The best plan by a limit that is not below the step.
 pub(crate) fn search_by_limit(header: Header, losses: &[u32], limit: u64) -> Planned
     requires { (O.well_formed header ≡ true) × (header.step ≤ limit) }
-    ensures { N.as_planning result ≡ N.found header losses.now (N.best_by_limit header losses.now limit) }
+    ensures { N.as_planning (Ok result) ≡ N.found header losses.now (N.best_by_limit header losses.now limit) }
 {
     let mut t = [NONE; TABLE];
     let mut held = [NONE; ROW];
@@ -157,7 +149,7 @@ pub(crate) fn search_by_limit(header: Header, losses: &[u32], limit: u64) -> Pla
 // The best plan in at most so many cells.
 pub(crate) fn search_by_cells(header: Header, losses: &[u32], most: u64) -> Planned
     requires { O.well_formed header ≡ true }
-    ensures { N.as_planning result ≡ N.found header losses.now (N.best_by_cells header losses.now most) }
+    ensures { N.as_planning (Ok result) ≡ N.found header losses.now (N.best_by_cells header losses.now most) }
 {
     let mut t = [NONE; TABLE];
     let mut held = [NONE; ROW];

@@ -1,5 +1,5 @@
 // The table: the least that the first k layers can stand at in exactly c cells, for every k and c.
-ghost use Rattle.std.specs.Prelude.{◌≡◌, true, List, ℕ, suc, ◌+◌, ◌*◌, ◌<◌, ◌≤◌, min, length, get_or, replicate};
+ghost use Rattle.std.specs.Prelude.{◌≡◌, true, List, ℕ, suc, ◌+◌, ◌*◌, ◌<◌, ◌≤◌, length, get_or, replicate};
 ghost use Rattle.header.specs.Header as Hd;
 ghost use Rattle.header.specs.Workings as W;
 ghost use Rattle.header.specs.Plan.{layers_most};
@@ -8,19 +8,13 @@ ghost use Rattle.planner.specs.Workings.Table as T;
 
 use header::{Header, MOST_CELLS, MOST_LAYERS};
 
-// No plan of a card stands this high.
+// No plan of a card stands this high: it stands for no plan in the table, where a number is quicker than an Option.
 pub(crate) const NONE: u64 = 1 << 60;
 
 // A row has an entry for each number of cells, and there is one for each number of layers.
 pub(crate) const ROW: usize = MOST_CELLS + 1;
 
 pub(crate) const TABLE: usize = (MOST_LAYERS + 1) * ROW;
-
-fn lesser(a: u64, b: u64) -> u64
-    ensures { result ≡ min a b }
-{
-    if a < b { a } else { b }
-}
 
 // Where each layer's numbers begin, behind those of the layers before it.
 pub(crate) fn firsts_of(header: Header) -> [usize; MOST_LAYERS]
@@ -29,10 +23,11 @@ pub(crate) fn firsts_of(header: Header) -> [usize; MOST_LAYERS]
 {
     let counts = header.planes;
     let mut firsts = [0usize; MOST_LAYERS];
-    let mut first: usize = 0;
-    for k in 0..MOST_LAYERS {
-        firsts[k] = first;
-        first += counts[k] as usize;
+    let mut passed: usize = 0;
+    // k indexes: behind a zip with iter_mut nothing is known of what was written, and the goal `returns` stays open.
+    for (k, first) in firsts.iter_mut().enumerate() {
+        *first = passed;
+        passed += counts[k] as usize;
     }
     firsts
 }
@@ -43,18 +38,21 @@ fn carry_row(t: &[u64], held: &mut [u64], header: Header, k: usize, reach: usize
     ensures { (ls : List ℕ) → T.Rows (T.layers_of header ls) t.now k → T.Held (T.layers_of header ls) k held.new reach }
 {
     let rule = figure::rule_of(header, k);
-    for c in 0..reach + 1 {
-        held[c] = figure::carried(rule, t[k * ROW + c]);
+    let row = &t[k * ROW..(k + 1) * ROW];
+    // c indexes: behind a zip with iter_mut nothing is known of what was written, and the goal `returns` stays open.
+    for (c, standing) in row[..reach + 1].iter().enumerate() {
+        held[c] = figure::carried(rule, *standing);
     }
 }
 
-// A pass over the entries from `to` on: each becomes the lesser of itself and of what is held for it with `own` added.
-fn pass(t: &mut [u64], held: &[u64], to: usize, own: u64, reach: usize)
-    requires { (to + reach < length t.old) × (reach < length held.now) × (own ≤ T.none) × ((b : ℕ) → b ≤ reach → get_or held.now b 0 ≤ 2 * T.none) }
-    ensures { T.Passed (λ b. get_or held.now b 0 + own) to t.old t.new (reach + 1) }
+// A pass over entries: each becomes the lesser of itself and of what is held for it with `own` added.
+fn pass(entries: &mut [u64], held: &[u64], own: u64)
+    requires { (length entries.old ≤ length held.now) × (own ≤ T.none) × ((b : ℕ) → b < length entries.old → get_or held.now b 0 ≤ 2 * T.none) }
+    ensures { T.Passed (λ b. get_or held.now b 0 + own) 0 entries.old entries.new (length entries.old) }
 {
-    for c in 0..reach + 1 {
-        t[to + c] = lesser(t[to + c], held[c] + own);
+    // b indexes: behind a zip with iter_mut nothing is known of what was written, and the goal `returns` stays open.
+    for (b, entry) in entries.iter_mut().enumerate() {
+        *entry = (*entry).min(held[b] + own);
     }
 }
 
@@ -76,9 +74,10 @@ fn fill_row(
 {
     let counts = header.planes;
     let top = counts[k];
-    for n in 0..top + 1 {
+    for n in 0..=top {
         let own = figure::charge(losses, first, top, n, header.step);
-        pass(t, held, (k + 1) * ROW + (n * span) as usize, own, reach);
+        let to = (k + 1) * ROW + (n * span) as usize;
+        pass(&mut t[to..to + reach + 1], held, own);
     }
 }
 
@@ -90,11 +89,12 @@ pub(crate) fn fill(t: &mut [u64], held: &mut [u64], header: Header, losses: &[u3
     t[0] = 0;
     let counts = header.planes;
     let spans = header.spans();
-    let firsts = firsts_of(header);
+    let mut first: usize = 0;
     let mut reach: usize = 0;
-    for k in 0..MOST_LAYERS {
+    for (k, (count, span)) in counts.iter().zip(spans.iter()).enumerate() {
         carry_row(t, held, header, k, reach);
-        fill_row(t, held, header, losses, k, firsts[k], spans[k], reach);
-        reach += (counts[k] * spans[k]) as usize;
+        fill_row(t, held, header, losses, k, first, *span, reach);
+        first += *count as usize;
+        reach += (*count * *span) as usize;
     }
 }

@@ -1,9 +1,10 @@
 -- Previewing a refinement (docs/CARD.md, "Plans, reading, refining"; "Refusals", previewing).
-use Rattle.std.specs.Prelude.{cond, List, ℕ, eqb, ℤ}
+use Rattle.std.specs.Prelude.{cond, List, ℕ, eqb, ℤ, Result, Ok, Err}
 use Rattle.layers.specs.Samples.{full}
 use Rattle.header.specs.declared.Header.{Header}
 use Rattle.header.specs.declared.Plan.{Plan}
 use Rattle.header.specs.declared.Details.{Details}
+use Rattle.header.specs.declared.Refusal.{Refusal}
 use Rattle.header.specs.Refusals.{refusal, details_of}
 use Rattle.header.specs.Plan.{no_plan}
 use Rattle.header.specs.Opening.{opening}
@@ -43,5 +44,6 @@ module _ (qs vs ns : List ℤ) where
       unless (opening bs).refused (unless (next_refusal (opening bs).header) (unless copy.refused (seen copy)))
 
 -- the code's answer in these terms
-abbrev pub as_previewing : Reached → List ℤ → List ℤ → List ℤ → Previewing
-as_previewing r qs vs ns = record { refused = details_of r.refusal; plan = r.plan; figure = r.figure; coefficients = qs; values = vs; next = ns }
+abbrev pub as_previewing : Result Reached Refusal → List ℤ → List ℤ → List ℤ → Previewing
+as_previewing (Ok r) qs vs ns = record { refused = refusal 0 0 0; plan = r.plan; figure = r.figure; coefficients = qs; values = vs; next = ns }
+as_previewing (Err r) qs vs ns = not_previewed qs vs ns (details_of r)

@@ -12,16 +12,6 @@ use card::Reached;
 use header::{Plan, Refusal};
 use sheet::MOST_POINTS;
 
-// Copies coefficients to the front of a room that is no shorter.
-fn copy(coefficients: &[i32], room: &mut [i32])
-    requires { length coefficients.now ≤ length room.old }
-    ensures { take (length coefficients.now) room.new ≡ coefficients.now }
-{
-    for j in 0..coefficients.len() {
-        room[j] = coefficients[j];
-    }
-}
-
 // Refines a copy of the coefficients, at the front of the room, with the values in a slice of their own.
 fn refine_copy(
     bytes: &[u8],
@@ -30,24 +20,22 @@ fn refine_copy(
     coefficients: &[i32],
     room: &mut [i32],
     next: &mut [i64],
-) -> Reached
+) -> Result<Reached, Refusal>
     requires { length coefficients.now ≤ length room.old }
     ensures { R.as_reading result (take (length coefficients.now) room.new) next.new ≡ F.refining coefficients.now next.old bytes.now plan layer }
 {
-    let n = coefficients.len();
-    copy(coefficients, room);
-    card::refine(bytes, plan, layer, &mut room[..n], next)
+    let copy = &mut room[..coefficients.len()];
+    copy.copy_from_slice(coefficients);
+    card::refine(bytes, plan, layer, copy, next)
 }
 
 // What slices of wrong lengths are refused for: what opening is refused for comes first.
 fn length_refusal(bytes: &[u8]) -> Refusal
     ensures { details_of result ≡ W.length_refusal bytes.now }
 {
-    let opened = header::open(bytes);
-    let refusal = opened.refusal;
-    match refusal {
-        Refusal::Accepted => Refusal::BadLengths,
-        _ => refusal,
+    match header::open(bytes) {
+        Ok(_) => Refusal::BadLengths,
+        Err(refusal) => refusal,
     }
 }
 
@@ -60,12 +48,12 @@ pub fn preview(
     coefficients: &[i32],
     values: &[i64],
     next: &mut [i64],
-) -> Reached
+) -> Result<Reached, Refusal>
     ensures { P.as_previewing result coefficients.now values.now next.new ≡ P.previewing coefficients.now values.now next.old bytes.now plan layer }
 {
     let n = coefficients.len();
     if MOST_POINTS < n || values.len() != n {
-        return card::refused(length_refusal(bytes));
+        return Err(length_refusal(bytes));
     }
     let mut room = [0i32; MOST_POINTS];
     refine_copy(bytes, plan, layer, coefficients, &mut room, next)

@@ -3,7 +3,7 @@ use mathlib.Core.List.{List, ◌++◌}
 use mathlib.Core.Path.{◌≡◌, sym, ap, ◌∙◌}
 use Prim.Native.Nat.{ℕ, ◌+◌, ◌*◌, ◌<◌, ◌≤◌}
 use native.Mathlib.Omega.{arith}
-use borrow.Author.Tests.{eqb-true, eqb-false}
+use borrow.Author.Tests.{eqb-true, eqb-false, ne_eqb}
 use lib.Dec.{eqb}
 use lib.IntN.{ℤ}
 use lib.ListN.{length, drop}
@@ -15,10 +15,13 @@ use Rattle.sheet.specs.Sheet.{accepted, points}
 use Rattle.sheet.specs.Workings.Shapes.{points_in}
 use Rattle.sheet.proofs.Accepting.{accepted-yes}
 use Rattle.header.specs.declared.Opened.{Opened}
+use Rattle.std.specs.Prelude.{Ok, Err}
+use Rattle.header.specs.declared.Refusal.{Refusal}
 use Rattle.header.specs.Refusals.{details_of}
 use Rattle.header.specs.Opening.{Opening, opening}
 use Rattle.header.specs.Opening as O
 use Rattle.header.proofs.OpenedSize.{opened-small}
+use Rattle.header.proofs.Refusing.{refusing}
 use Rattle.card.specs.declared.Reached.{Reached}
 use Rattle.card.specs.Reading.{Reading, showing, as_reading}
 use Rattle.card.proofs.Bare.{showing-bare}
@@ -35,7 +38,19 @@ unfolding points_in
 points-few sh = by (accepted sh) (λ y. rw y (accepted-yes sh y).small) (λ n. rw n (omega arith))
 
 -- ---- the call
-module _ (qs vs : List ℤ) (page bs : List ℕ) (o : Opened) (e : O.as_opening o (opening bs).losses ≡ opening bs) where
+module _ (qs vs : List ℤ) (page bs : List ℕ) (w : Refusal) where
+  -- what showing is refused for is passed on
+  pub passed_on : (cs ws : List ℤ) → as_reading (Err w) cs ws ≡ showing qs vs bs → as_rolling (Err w) cs ws page ≡ rolling qs vs page bs
+  passed_on cs ws shown =
+      let refused : (showing qs vs bs).refused.number ≡ 0 → ⊥ = λ z. refusing w (ap (λ (s : Reading). s.refused.number) shown ∙ z) in
+      ap (λ (s : Reading). record { shown = s; page = page }) (shown ∙ sym (showing-bare qs vs bs refused)) ∙ sym (rolling-refused qs vs page bs refused)
+
+  -- and so is what opening is
+  pub opening-refused : O.not_opened (details_of w) ≡ opening bs → as_rolling (Err w) qs vs page ≡ rolling qs vs page bs
+  unfolding showing
+  opening-refused e = passed_on qs vs (rw (← e, ne_eqb (details_of w).number 0 (refusing w)))
+
+module _ (qs vs : List ℤ) (page bs : List ℕ) (o : Opened) (e : O.opened o.header (opening bs).losses o.length ≡ opening bs) where
   shape_is : o.header.shape ≡ (opening bs).header.shape
   shape_is = ap (λ (x : Opening). x.header.shape) e
 
@@ -50,16 +65,11 @@ module _ (qs vs : List ℤ) (page bs : List ℕ) (o : Opened) (e : O.as_opening 
       (λ y. rw y (sym (rolling-short qs vs page bs (eqb-true _ 0 y) short)))
       (λ n. rw n (sym (rolling-refused qs vs page bs (eqb-false _ 0 n))))
 
-  -- a page with room: showing is refused
-  module _ (r : Reached) (cs ws : List ℤ) (shown : as_reading r cs ws ≡ showing qs vs bs) where
-    pub passed_on : ((showing qs vs bs).refused.number ≡ 0 → ⊥) → as_rolling r cs ws page ≡ rolling qs vs page bs
-    passed_on refused =
-        ap (λ (s : Reading). record { shown = s; page = page }) (shown ∙ sym (showing-bare qs vs bs refused)) ∙ sym (rolling-refused qs vs page bs refused)
-
-    -- a page with room: the card is shown, so it can be printed
-    module _ (fine : (details_of r.refusal).number ≡ 0) {n : ℕ} (is : n ≡ (line_places + 1) * (points_in o.header.shape + 1)) (room : n ≤ length page) where
+  -- a page with room: the card is shown, so it can be printed
+  module _ (r : Reached) (cs ws : List ℤ) (shown : as_reading (Ok r) cs ws ≡ showing qs vs bs) where
+    module _ {n : ℕ} (is : n ≡ (line_places + 1) * (points_in o.header.shape + 1)) (room : n ≤ length page) where
       accepts : (showing qs vs bs).refused.number ≡ 0
-      accepts = ap (λ (s : Reading). s.refused.number) (sym shown) ∙ fine
+      accepts = ap (λ (s : Reading). s.refused.number) (sym shown)
 
       values-are : ws ≡ (showing qs vs bs).values
       values-are = ap (λ (s : Reading). s.values) shown
@@ -72,7 +82,7 @@ module _ (qs vs : List ℤ) (page bs : List ℕ) (o : Opened) (e : O.as_opening 
           let long = ap length values-are ∙ values-long qs vs bs accepts in
           (rw (values-are, shape_is) (printable qs vs bs accepts), long ∙ ap points (sym shape_is), omega (arith, is, room, needed-is, long))
 
-      pub printed-is : {next : List ℕ} → next ≡ sets page 0 (page_text o.header.shape r.figure ws) → as_rolling r cs ws next ≡ rolling qs vs page bs
+      pub printed-is : {next : List ℕ} → next ≡ sets page 0 (page_text o.header.shape r.figure ws) → as_rolling (Ok r) cs ws next ≡ rolling qs vs page bs
       printed-is {next} put =
           let sh = (opening bs).header.shape in
           let s = showing qs vs bs in

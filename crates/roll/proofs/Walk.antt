@@ -7,7 +7,7 @@ use native.Mathlib.Omega.{arith}
 use lib.Arith.{digits_div, digits_mod}
 use lib.IntN.{ℤ}
 use lib.ListN.{length, drop}
-use lib.Seq.{sets, length-sets, drop-length}
+use lib.Seq.{sets, drop-length}
 use Rattle.sheet.specs.declared.Shape.{Shape}
 use Rattle.sheet.specs.Lists.{at}
 use Rattle.text.specs.Decimal.{decimal}
@@ -32,9 +32,6 @@ module _ (cols : ℕ) (vs : List ℤ) (ok : Printable cols vs) (row column : ℕ
 
     abbrev line : List ℕ
     line = value_line row column (at vs p)
-
-    pub line-keeps : length next ≡ length page
-    line-keeps = ap length put ∙ length-sets page from line
 
     pub line-less : printed_from cols vs next (p + 1) ≡ printed_from cols vs page p
     unfolding printed_from

@@ -1,7 +1,8 @@
 -- Rolling (docs/CARD.md, "The calls", the roll; "Refusals", rolling).
-use Rattle.std.specs.Prelude.{cond, List, ◌++◌, ℕ, ltb, eqb, ℤ, length, drop}
+use Rattle.std.specs.Prelude.{cond, List, ◌++◌, ℕ, ltb, eqb, ℤ, length, drop, Result}
 use Rattle.sheet.specs.declared.Shape.{Shape}
 use Rattle.header.specs.declared.Details.{Details}
+use Rattle.header.specs.declared.Refusal.{Refusal}
 use Rattle.header.specs.Refusals.{refusal}
 use Rattle.header.specs.Opening.{opening}
 use Rattle.card.specs.declared.Reached.{Reached}
@@ -35,5 +36,5 @@ module _ (qs vs : List ℤ) (page : List ℕ) where
       cond (eqb shown.refused.number 0) (rolled (opening bs).header.shape shown) (not_rolled shown.refused)
 
 -- the code's answer in these terms
-abbrev pub as_rolling : Reached → List ℤ → List ℤ → List ℕ → Rolling
+abbrev pub as_rolling : Result Reached Refusal → List ℤ → List ℤ → List ℕ → Rolling
 as_rolling r qs vs page = record { shown = as_reading r qs vs; page = page }

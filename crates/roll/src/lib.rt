@@ -1,7 +1,7 @@
 // The roll: what a card shows, in lines for a printer of 24 characters.
 #![tactic(auto)]
 
-ghost use Rattle.std.specs.Prelude.{◌≡◌, ◌+◌, ◌*◌};
+ghost use Rattle.std.specs.Prelude.{◌≡◌, ◌+◌, ◌*◌, Err};
 ghost use Rattle.sheet.specs.Workings.Shapes.{points_in};
 ghost use Rattle.card.specs.Reading as R;
 ghost use Rattle.roll.specs.Page as P;
@@ -36,33 +36,29 @@ pub fn page_length(shape: Shape) -> usize
 }
 
 // Why a roll is refused whose page is too short: what showing is refused for comes first.
-fn short(bytes: &[u8], coefficients: &[i32], values: &[i64]) -> Reached
-    ensures { R.as_reading result coefficients.now values.now ≡ W.on_short coefficients.now values.now bytes.now }
+fn short(bytes: &[u8], coefficients: &[i32], values: &[i64]) -> Refusal
+    ensures { R.as_reading (Err result) coefficients.now values.now ≡ W.on_short coefficients.now values.now bytes.now }
 {
-    let refusal = card::examine(bytes, coefficients, values);
-    match refusal {
-        Refusal::Accepted => card::refused(Refusal::ShortPage),
-        _ => card::refused(refusal),
+    match card::examine(bytes, coefficients, values) {
+        Ok(()) => Refusal::ShortPage,
+        Err(refusal) => refusal,
     }
 }
 
 // Shows a card and prints what it shows on the page. A refusal changes nothing: where the page is too short, the card is only examined.
-pub fn roll(bytes: &[u8], coefficients: &mut [i32], values: &mut [i64], page: &mut [u8]) -> Reached
+pub fn roll(
+    bytes: &[u8],
+    coefficients: &mut [i32],
+    values: &mut [i64],
+    page: &mut [u8],
+) -> Result<Reached, Refusal>
     ensures { L.as_rolling result coefficients.new values.new page.new ≡ L.rolling coefficients.old values.old page.old bytes.now }
 {
-    let opened = header::open(bytes);
-    let header = opened.header;
-    let shape = header.shape;
+    let shape = header::open(bytes)?.header.shape;
     if page.len() < page_length(shape) {
-        return short(bytes, coefficients, values);
+        return Err(short(bytes, coefficients, values));
     }
-    let reached = card::show(bytes, coefficients, values);
-    let refusal = reached.refusal;
-    match refusal {
-        Refusal::Accepted => {
-            print(shape, reached.figure, values, page);
-            reached
-        }
-        _ => reached,
-    }
+    let reached = card::show(bytes, coefficients, values)?;
+    print(shape, reached.figure, values, page);
+    Ok(reached)
 }

@@ -8,6 +8,7 @@ pub mod Fits
 pub mod Earlier
 pub mod Cover
 pub mod Flat
+pub mod Arrays
 pub mod OnGrid
 pub mod Places
 pub mod Size

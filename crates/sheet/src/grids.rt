@@ -11,12 +11,10 @@ use crate::{Direction, Grid, Shape};
 fn turn(i: usize) -> Direction
     ensures { result ≡ S.turn i }
 {
-    if i == 0 {
-        Direction::Across
-    } else if i == 1 {
-        Direction::Down
-    } else {
-        Direction::Between
+    match i {
+        0 => Direction::Across,
+        1 => Direction::Down,
+        _ => Direction::Between,
     }
 }
 
@@ -43,50 +41,36 @@ fn grid_for(layer: usize, direction: Direction, s: usize) -> Grid
     requires { s ≤ 2 ^ levels_most }
     ensures { result ≡ L.grid_for layer direction s }
 {
+    let anchors = Grid {
+        layer,
+        direction,
+        spacing: s,
+        sheet: 0,
+        deep: s,
+        row: 0,
+        down: s,
+        col: 0,
+        right: s,
+    };
     match direction {
-        Direction::Anchor => Grid {
-            layer,
-            direction,
-            spacing: s,
-            sheet: 0,
-            deep: s,
-            row: 0,
-            down: s,
-            col: 0,
-            right: s,
-        },
+        Direction::Anchor => anchors,
         Direction::Across => Grid {
-            layer,
-            direction,
-            spacing: s,
-            sheet: 0,
             deep: 2 * s,
-            row: 0,
             down: 2 * s,
             col: s,
             right: 2 * s,
+            ..anchors
         },
         Direction::Down => Grid {
-            layer,
-            direction,
-            spacing: s,
-            sheet: 0,
             deep: 2 * s,
             row: s,
             down: 2 * s,
-            col: 0,
-            right: s,
+            ..anchors
         },
         Direction::Between => Grid {
-            layer,
-            direction,
-            spacing: s,
             sheet: s,
             deep: 2 * s,
-            row: 0,
-            down: s,
-            col: 0,
-            right: s,
+            ..anchors
         },
     }
 }

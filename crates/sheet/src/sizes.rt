@@ -19,21 +19,23 @@ fn steps(first: usize, stride: usize, end: usize) -> usize
     0
 }
 
+// The lines of a layer that is not there.
+const NO_LINES: Lines = Lines {
+    first: 0,
+    sheets: 0,
+    beyond: 0,
+    lines: 0,
+    apart: 0,
+    points: 0,
+    stride: 0,
+};
+
 // A layer's rows as lines; no lines where there is no such layer.
 fn row_lines(shape: Shape, layer: usize) -> Lines
     ensures { result ≡ L.row_lines shape layer }
 {
-    let none = Lines {
-        first: 0,
-        sheets: 0,
-        beyond: 0,
-        lines: 0,
-        apart: 0,
-        points: 0,
-        stride: 0,
-    };
     if !has_layer(shape, layer) {
-        return none;
+        return NO_LINES;
     }
     let depth = shape.depth;
     let rows = shape.rows;

@@ -13,8 +13,7 @@ const FIRST_NAME: usize = 1;
 fn show(file: i32) {
     let mut buffer = [0u8; BUFFER];
     let input = display::read(file, &mut buffer);
-    let n = input.length;
-    display::show(&buffer[..n], input.ends);
+    display::show(input.bytes, input.ends);
 }
 
 // Shows the card that is named, or says that there is none.
@@ -35,6 +34,7 @@ fn main(rt: HostRuntime) {
         show(STDIN);
         return;
     }
+    // By number, since `std::env::args` needs memory, and refuses a name that is not UTF-8.
     for i in FIRST_NAME..usize::MAX {
         let Some(length) = display::argument(&rt, i, &mut name) else {
             break;

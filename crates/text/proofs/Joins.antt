@@ -13,8 +13,7 @@ use borrow.Author.Tests.{lt-ltb, ltb-true}
 use lib.Dec.{ltb}
 use lib.ListN.{length, take, drop, get_or, length-append, length-take}
 use lib.Seq.{take-suc, take-append_seam, drop-append-add, split_at, append_snoc}
-use Rattle.text.specs.declared.Number.{Number}
-use Rattle.text.specs.declared.Number.TheVariants as N
+use Rattle.std.specs.Prelude as P
 use Rattle.text.specs.Decimal.{decimal, parsed}
 use Rattle.text.specs.Line.{newline, index_of}
 use Rattle.text.specs.Joined.{comma, joined, cons_number, numbers_in}
@@ -37,11 +36,6 @@ unfolding joined
 joined_snoc [] m h = absurd (let z : ⊥ = omega arith in z)
 joined_snoc (n ∷ []) m h = refl
 joined_snoc (n ∷ k ∷ ns) m h = ap (λ (l : List ℕ). decimal n ++ comma ∷ l) (joined_snoc (k ∷ ns) m (omega arith)) ∙ sym (append_assoc (decimal n) (comma ∷ joined (k ∷ ns)) (comma ∷ decimal m))
-
-pub joined-one : (ns : List ℕ) → 0 < length ns → joined (take 1 ns) ≡ decimal (get_or ns 0 0)
-unfolding joined
-joined-one [] h = absurd (let z : ⊥ = omega arith in z)
-joined-one (n ∷ ns) h = refl
 
 -- one number more
 pub joined-more : (ns : List ℕ) (i : ℕ) → 0 < i → i < length ns → joined (take (i + 1) ns) ≡ joined (take i ns) ++ (comma ∷ []) ++ decimal (get_or ns i 0)
@@ -131,7 +125,7 @@ read_back (n ∷ k ∷ ns) (m ∷ l ∷ limits) w =
     let text : List ℕ = decimal n ++ comma ∷ rest in
     let end : index_of comma text ≡ length (decimal n) = before-seam comma (decimal n) rest (no-comma n) in
     let inside : ltb (length (decimal n)) (length text) ≡ true = lt-ltb (length (decimal n)) (length text) (omega (arith, length-append (decimal n) (comma ∷ rest))) in
-    let number : parsed 0 m (take (length (decimal n)) text) ≡ N.Value n = ap (parsed 0 m) (take-append_seam (decimal n) (comma ∷ rest)) ∙ read-digits 0 m n (omega arith) w.0 in
+    let number : parsed 0 m (take (length (decimal n)) text) ≡ P.Some n = ap (parsed 0 m) (take-append_seam (decimal n) (comma ∷ rest)) ∙ read-digits 0 m n (omega arith) w.0 in
     let later : numbers_in (l ∷ limits) (drop (length (decimal n) + 1) text) ≡ some (k ∷ ns) =
     ap (numbers_in (l ∷ limits)) (drop-append-add (decimal n) (comma ∷ rest) 1) ∙ read_back (k ∷ ns) (l ∷ limits) w.1 in
     rw (end, inside, number, later)
@@ -150,9 +144,9 @@ written_back [] [] ns e = let is : [] ≡ ns = cc in rw (← is) (record { text-
 written_back [] (x ∷ text) ns e = absurd (never e)
 written_back (m ∷ []) text ns e = by (parsed 0 m text) refl e
   where
-    by : (p : Number) → parsed 0 m text ≡ p → cons_number p (some []) ≡ some ns → Written (m ∷ []) text ns
-    by N.Wrong q e = absurd (never e)
-    by (N.Value v) q e =
+    by : (p : P.Option ℕ) → parsed 0 m text ≡ p → cons_number p (some []) ≡ some ns → Written (m ∷ []) text ns
+    by P.None q e = absurd (never e)
+    by (P.Some v) q e =
         let s : Spelt 0 m text v = spelt 0 m text v q in
         let is : v ∷ [] ≡ ns = cc in
         rw (← is) (record { text-is = unfold joined in s.text-is; within = (s.most, tt) })
@@ -160,12 +154,12 @@ written_back (m ∷ l ∷ limits) text ns e =
     by (ltb (index_of comma text) (length text)) (parsed 0 m (take (index_of comma text) text)) (numbers_in (l ∷ limits) (drop (index_of comma text + 1) text)) refl refl e
     (λ vs. written_back (l ∷ limits) (drop (index_of comma text + 1) text) vs)
   where
-    by : (t : Bool) (p : Number) (o : Option (List ℕ)) → ltb (index_of comma text) (length text) ≡ t → parsed 0 m (take (index_of comma text) text) ≡ p
+    by : (t : Bool) (p : P.Option ℕ) (o : Option (List ℕ)) → ltb (index_of comma text) (length text) ≡ t → parsed 0 m (take (index_of comma text) text) ≡ p
         → cond t (cons_number p o) none ≡ some ns → ((vs : List ℕ) → o ≡ some vs → Written (l ∷ limits) (drop (index_of comma text + 1) text) vs) → Written (m ∷ l ∷ limits) text ns
     by false p o t q e rest = absurd (never e)
-    by true N.Wrong o t q e rest = absurd (never e)
-    by true (N.Value v) none t q e rest = absurd (never e)
-    by true (N.Value v) (some vs) t q e rest =
+    by true P.None o t q e rest = absurd (never e)
+    by true (P.Some v) none t q e rest = absurd (never e)
+    by true (P.Some v) (some vs) t q e rest =
         let s : Spelt 0 m (take (index_of comma text) text) v = spelt 0 m _ v q in
         let c : Written (l ∷ limits) (drop (index_of comma text + 1) text) vs = rest vs refl in
         let inside : index_of comma text < length text = ltb-true _ _ t in

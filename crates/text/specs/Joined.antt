@@ -1,8 +1,7 @@
 -- Numbers with commas between them, as line 6 has the counts of planes and line 7 the losses (docs/CARD.md, "The card").
 use Rattle.std.specs.Prelude.{cond, List, [], ◌∷◌, ◌++◌, ℕ, ◌+◌, ltb, length, take, drop}
 use Rattle.std.proofs.Math.Option.{Option, none, some}
-use Rattle.text.specs.declared.Number.{Number}
-use Rattle.text.specs.declared.Number.TheVariants as N
+use Rattle.std.specs.Prelude as P
 use Rattle.text.specs.Decimal.{decimal, parsed}
 use Rattle.text.specs.Line.{index_of}
 
@@ -16,10 +15,10 @@ joined (n ∷ []) = decimal n
 joined (n ∷ m ∷ ns) = decimal n ++ comma ∷ joined (m ∷ ns)
 
 -- ---- as they are read: exactly as many as there are limits, each at most its own
-abbrev pub cons_number : Number → Option (List ℕ) → Option (List ℕ)
-cons_number N.Wrong rest = none
-cons_number (N.Value v) none = none
-cons_number (N.Value v) (some vs) = some (v ∷ vs)
+abbrev pub cons_number : P.Option ℕ → Option (List ℕ) → Option (List ℕ)
+cons_number P.None rest = none
+cons_number (P.Some v) none = none
+cons_number (P.Some v) (some vs) = some (v ∷ vs)
 
 unfoldable pub numbers_in : List ℕ → List ℕ → Option (List ℕ)
 numbers_in [] [] = some []

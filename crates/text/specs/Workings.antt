@@ -1,5 +1,6 @@
 -- What the calls answer beyond a card's text: room, and lists that may be none.
-use Rattle.std.specs.Prelude.{Bool, cond, true, false, List, ℕ, ◌+◌, leb, length, replicate}
+use Rattle.std.specs.Prelude.{Bool, cond, true, false, ◌==◌, List, ℕ, ◌+◌, leb, length, replicate, position}
+use Rattle.std.specs.Prelude as P
 use Rattle.std.proofs.lemmas.List.Edits.{sets}
 use Rattle.std.proofs.Math.Option.{Option, none, some}
 
@@ -31,3 +32,7 @@ or_zeros n (some ns) = ns
 abbrev pub answered : Bool → List ℕ → Option (List ℕ)
 answered false ns = none
 answered true ns = some ns
+
+-- the index of the first byte x
+unfoldable pub first_of : ℕ → List ℕ → P.Option ℕ
+first_of x l = position (λ y. y == x) l

@@ -1,11 +1,10 @@
 // The program trace: a word for each thing that people do with a card.
 #![tactic(auto)]
 
-ghost use Rattle.std.specs.Prelude.{◌≡◌, pos};
+ghost use Rattle.std.specs.Prelude.{◌≡◌};
 ghost use Rattle.std.specs.Process.{exit_status};
-ghost use Rattle.io.specs.Counts.{IsPrefixLen};
 ghost use Rattle.trace.specs.Words as W;
-ghost use Rattle.trace.specs.Workings.{IsStatus};
+ghost use Rattle.trace.specs.declared.Ending.TheVariants.{NoWord, NoFile};
 
 use display::{BUFFER, Input, STDERR, STDIN};
 use std::env::Env;
@@ -21,14 +20,30 @@ pub enum Word {
     Show,
     Roll,
     Compare,
-    Unknown,
 }
 
-// The exit status where the word is missing or not known, or followed by another number of names than its own.
-const NO_WORD: i32 = 2;
+// How a run ends: a card is taken, or two together; it is refused, or both together are; the word is missing or not known, or followed by another number of
+// names than its own; or a file that is named cannot be read.
+#[derive(Clone, Copy)]
+pub enum Ending {
+    Taken,
+    Refused,
+    NoWord,
+    NoFile,
+}
 
-// The exit status where a file that is named cannot be read.
-const NO_FILE: i32 = 2;
+// The program's exit status.
+impl From<Ending> for ExitCode {
+    ghost from_gives = { λ ending code. exit_status code ≡ W.status_of ending };
+
+    fn from(ending: Ending) -> ExitCode {
+        ExitCode::from(match ending {
+            Ending::Taken => 0,
+            Ending::Refused => 1,
+            Ending::NoWord | Ending::NoFile => 2,
+        })
+    }
+}
 
 // Which arguments are the word and the names behind it.
 const WORD: usize = 1;
@@ -37,25 +52,23 @@ const FIRST_NAME: usize = 2;
 
 const SECOND_NAME: usize = 3;
 
-fn is(text: &[u8], word: &[u8]) -> bool
-    ensures { result ≡ W.is text.now word.now }
-{
-    text.len() == word.len() && text::starts_with(text, word)
-}
+const USAGE: &[u8] = b"usage: trace WORD < CARD, or trace compare CARD CARD
+  show     sizes, planes loaded, figure and values
+  roll     the figure, then a line for each value: row, column, value
+  compare  how many points are apart, the first, then a line for each row: 0 agree, 1 apart
+";
 
-fn word_of(text: &[u8]) -> Word
+// The word that a text is.
+#[tactic(auto, using(crate::proofs::Spelled::spelling))]
+fn word_of(text: &[u8]) -> Option<Word>
     ensures { result ≡ W.word_of text.now }
 {
-    if is(text, b"show") {
-        return Word::Show;
+    match text {
+        b"show" => Some(Word::Show),
+        b"roll" => Some(Word::Roll),
+        b"compare" => Some(Word::Compare),
+        _ => None,
     }
-    if is(text, b"roll") {
-        return Word::Roll;
-    }
-    if is(text, b"compare") {
-        return Word::Compare;
-    }
-    Word::Unknown
 }
 
 // How many names of files follow a word.
@@ -63,76 +76,47 @@ fn names_of(word: Word) -> usize
     ensures { result ≡ W.names_of word }
 {
     match word {
-        Word::Show => 0,
-        Word::Roll => 0,
+        Word::Show | Word::Roll => 0,
         Word::Compare => 2,
-        Word::Unknown => 0,
     }
 }
 
 // What is asked for by a text and so many names behind it.
-fn asked(text: &[u8], names: usize) -> Word
+fn asked(text: &[u8], names: usize) -> Option<Word>
     ensures { result ≡ W.asked text.now names }
 {
-    let word = word_of(text);
-    if names == names_of(word) {
-        word
-    } else {
-        Word::Unknown
+    word_of(text).filter(|word| names == names_of(*word))
+}
+
+// How a run ends by a refusal's number.
+fn ending_of(number: u64) -> Ending
+    ensures { result ≡ W.ending_of number }
+{
+    match number {
+        0 => Ending::Taken,
+        _ => Ending::Refused,
     }
 }
 
-// The exit status beside a refusal's number.
-fn status_of(number: u64) -> i32
-    ensures { result ≡ W.status_of number }
+// Says which words there are.
+fn words() -> Ending
+    ensures { result ≡ NoWord }
 {
-    if number == 0 { 0 } else { 1 }
+    io::write_all(STDERR, USAGE);
+    Ending::NoWord
 }
 
-// Says which words there are, and answers that status.
-fn words() -> i32
-    ensures { result ≡ W.no_word }
-{
-    io::write_all(
-        STDERR,
-        b"usage: trace WORD < CARD, or trace compare CARD CARD\n",
-    );
-    io::write_all(
-        STDERR,
-        b"  show     sizes, planes loaded, figure and values\n",
-    );
-    io::write_all(
-        STDERR,
-        b"  roll     the figure, then a line for each value: row, column, value\n",
-    );
-    io::write_all(
-        STDERR,
-        b"  compare  how many points are apart, the first, then a line for each row: 0 agree, 1 apart\n",
-    );
-    NO_WORD
-}
-
-// Shows the card on standard input, and answers the exit status.
-fn show() -> i32
-    ensures { IsStatus result }
+// Prints of the card on standard input what a word says.
+fn print<F: Fn(&[u8], bool) -> u64>(what: F) -> Ending
+    requires { F.IsAlwaysCallable what }
 {
     let mut buffer = [0u8; BUFFER];
     let input = display::read(STDIN, &mut buffer);
-    let n = input.length;
-    status_of(display::show(&buffer[..n], input.ends))
+    ending_of(what(input.bytes, input.ends))
 }
 
-// Prints its roll, and answers likewise.
-fn roll() -> i32
-    ensures { IsStatus result }
-{
-    let mut buffer = [0u8; BUFFER];
-    let input = display::read(STDIN, &mut buffer);
-    let n = input.length;
-    status_of(display::roll(&buffer[..n], input.ends))
-}
-
-// How many arguments there are behind the word. The turns are more than any arguments use up.
+// How many arguments there are behind the word. The turns are more than any arguments use up. They are asked for by number: `std::env::args` needs memory, and
+// refuses a name that is not UTF-8.
 fn names_behind(rt: &impl Env) -> usize {
     let mut name = io::buffer();
     for i in FIRST_NAME..usize::MAX {
@@ -153,28 +137,24 @@ fn open<R: Env + Files>(rt: &R, i: usize) -> Option<R::File> {
     Some(file)
 }
 
-// Says that it cannot be read, and answers that status.
-fn not_read(rt: &impl Env, i: usize) -> i32
-    ensures { result ≡ W.no_file }
+// Says that it cannot be read.
+fn not_read(rt: &impl Env, i: usize) -> Ending
+    ensures { result ≡ NoFile }
 {
     let mut name = io::buffer();
     let length = display::argument(rt, i, &mut name).unwrap_or(0);
     io::write_all(STDERR, &name[..length]);
     io::write_all(STDERR, b": cannot be read\n");
-    NO_FILE
+    Ending::NoFile
 }
 
 // Reads a file that was opened, and closes it.
-fn take(file: File, buffer: &mut [u8]) -> Input
-    ensures { IsPrefixLen result.length buffer.new }
-{
+fn take(file: File, buffer: &mut [u8]) -> Input<'_> {
     display::read(file.as_raw_fd(), buffer)
 }
 
-// Compares the two cards that are named, and answers the exit status. Where the first cannot be read, the second is not looked at.
-fn compare(rt: &(impl Env + Files<File = File>)) -> i32
-    ensures { IsStatus result }
-{
+// Compares the two cards that are named. Where the first cannot be read, the second is not looked at.
+fn compare(rt: &(impl Env + Files<File = File>)) -> Ending {
     let Some(file1) = open(rt, FIRST_NAME) else {
         return not_read(rt, FIRST_NAME);
     };
@@ -185,42 +165,24 @@ fn compare(rt: &(impl Env + Files<File = File>)) -> i32
     };
     let mut buffer2 = [0u8; BUFFER];
     let input2 = take(file2, &mut buffer2);
-    let n1 = input1.length;
-    let n2 = input2.length;
-    status_of(display::compare(&buffer1[..n1], input1.ends, &buffer2[..n2], input2.ends))
+    ending_of(display::compare(input1.bytes, input1.ends, input2.bytes, input2.ends))
 }
 
-// Does what a word says, and answers the exit status.
-fn run(rt: &(impl Env + Files<File = File>), word: Word) -> i32
-    ensures { IsStatus result }
-{
-    match word {
-        Word::Show => show(),
-        Word::Roll => roll(),
-        Word::Compare => compare(rt),
-        Word::Unknown => words(),
-    }
-}
-
-// Does what the first argument says, of which the others are names, and answers the exit status.
-pub fn trace_run(rt: &(impl Env + Files<File = File>)) -> i32
-    ensures { IsStatus result }
-{
+// Does what the first argument says, of which the others are names. `show` and `roll` stand in closures: handed on by themselves, as functions of another
+// crate, they are refused ("it has no file").
+pub fn trace_run(rt: &(impl Env + Files<File = File>)) -> Ending {
     let mut text = io::buffer();
     let Some(length) = display::argument(rt, WORD, &mut text) else {
         return words();
     };
-    run(rt, asked(&text[..length], names_behind(rt)))
-}
-
-// The program's own form of a status.
-fn code_of(status: i32) -> ExitCode
-    requires { IsStatus status }
-    ensures { pos (exit_status result) ≡ status }
-{
-    ExitCode::from(status as u8)
+    match asked(&text[..length], names_behind(rt)) {
+        Some(Word::Show) => print(|bytes, ends| display::show(bytes, ends)),
+        Some(Word::Roll) => print(|bytes, ends| display::roll(bytes, ends)),
+        Some(Word::Compare) => compare(rt),
+        None => words(),
+    }
 }
 
 fn main(rt: HostRuntime) -> ExitCode {
-    code_of(trace_run(&rt))
+    ExitCode::from(trace_run(&rt))
 }

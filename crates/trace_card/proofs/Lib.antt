@@ -1,3 +1,2 @@
 mod Answers
 mod Lengths
-mod Told

@@ -1,11 +1,11 @@
 // Comparing.
 ghost use Rattle.std.specs.Prelude.{◌≡◌, length};
-ghost use Rattle.header.specs.Refusals.{details_of};
+ghost use Rattle.header.specs.Refusals.{refusal};
 ghost use Rattle.compare.specs.Comparing as C;
 ghost use Rattle.trace_card.specs.Boundary as B;
 
 use crate::ANSWER;
-use crate::answer::put_answer;
+use crate::answer::{put_answer, put_refusal};
 use compare::Compared;
 use header::Plan;
 use sheet::MOST_LAYERS;
@@ -13,18 +13,11 @@ use sheet::MOST_LAYERS;
 // Fills the answer of a comparison: the row stands where other calls have the figure, and the column where their plan begins.
 fn put_compared(answer: &mut [u64], compared: Compared) -> u64
     requires { length answer.old ≡ B.answer_length }
-    ensures { (result ≡ (details_of compared.refusal).number) × (answer.new ≡ B.numbers (details_of compared.refusal) compared.number compared.row (B.column_first compared.column)) }
+    ensures { (result ≡ 0) × (answer.new ≡ B.numbers (refusal 0 0 0) compared.number compared.row (B.column_first compared.column)) }
 {
-    let refusal = compared.refusal;
     let mut planes = [0u64; MOST_LAYERS];
     planes[0] = compared.column;
-    put_answer(
-        answer,
-        header::details_of(refusal),
-        compared.number,
-        compared.row,
-        Plan { planes },
-    )
+    put_answer(answer, compared.number, compared.row, Plan { planes })
 }
 
 // Compares what two cards show, each in its two slices: for each point 1 where they are apart, otherwise 0.
@@ -43,7 +36,7 @@ pub fn trace_card_compare(
     if answer.len() != ANSWER {
         return 3;
     }
-    let compared = compare::compare(
+    match compare::compare(
         first,
         second,
         coefficients1,
@@ -51,6 +44,8 @@ pub fn trace_card_compare(
         coefficients2,
         values2,
         apart,
-    );
-    put_compared(answer, compared)
+    ) {
+        Ok(compared) => put_compared(answer, compared),
+        Err(refusal) => put_refusal(answer, refusal),
+    }
 }

@@ -1,4 +1,4 @@
-// The calls with numbers and slices alone, as include/trace_card.h has them. `trace_card_c` exports them to C.
+// The calls with numbers and slices alone, as include/trace_card.h has them, so a refusal is its number: 3 where a length is wrong. `trace_card_c` exports them to C.
 #![tactic(auto)]
 
 mod answer;

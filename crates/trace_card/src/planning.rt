@@ -1,26 +1,22 @@
 // Planning, by a limit on the figure or in so many cells.
 ghost use Rattle.std.specs.Prelude.{◌≡◌, length};
-ghost use Rattle.header.specs.Refusals.{details_of};
+ghost use Rattle.planner.specs.Planning as N;
 ghost use Rattle.trace_card.specs.Boundary as B;
 
 use crate::ANSWER;
-use crate::answer::put_answer;
+use crate::answer::{put_answer, put_refusal};
+use header::Refusal;
 use planner::Planned;
 
 // Fills the answer of a call that finds a plan.
-fn put_planned(answer: &mut [u64], planned: Planned) -> u64
+fn put_planned(answer: &mut [u64], planned: Result<Planned, Refusal>) -> u64
     requires { length answer.old ≡ B.answer_length }
-    ensures { (result ≡ (details_of planned.refusal).number) × (answer.new ≡ B.numbers (details_of planned.refusal) planned.cells planned.figure planned.plan.planes) }
+    ensures { B.asked result answer.new ≡ B.planned_as (N.as_planning planned) }
 {
-    let refusal = planned.refusal;
-    let plan = planned.plan;
-    put_answer(
-        answer,
-        header::details_of(refusal),
-        planned.cells,
-        planned.figure,
-        plan,
-    )
+    match planned {
+        Ok(planned) => put_answer(answer, planned.cells, planned.figure, planned.plan),
+        Err(refusal) => put_refusal(answer, refusal),
+    }
 }
 
 // The plan with the fewest cells whose figure is at most the limit.
@@ -30,8 +26,7 @@ pub fn trace_card_plan_by_limit(card: &[u8], limit: u64, answer: &mut [u64]) -> 
     if answer.len() != ANSWER {
         return 3;
     }
-    let planned = planner::plan_by_limit(card, limit);
-    put_planned(answer, planned)
+    put_planned(answer, planner::plan_by_limit(card, limit))
 }
 
 // The plan with the smallest figure in at most so many cells.
@@ -41,6 +36,5 @@ pub fn trace_card_plan_by_cells(card: &[u8], cells: u64, answer: &mut [u64]) -> 
     if answer.len() != ANSWER {
         return 3;
     }
-    let planned = planner::plan_by_cells(card, cells);
-    put_planned(answer, planned)
+    put_planned(answer, planner::plan_by_cells(card, cells))
 }

@@ -1,21 +1,23 @@
 // Reading, showing and refining.
-ghost use Rattle.std.specs.Prelude.{◌≡◌, length};
-ghost use Rattle.header.specs.Refusals.{details_of};
+ghost use Rattle.std.specs.Prelude.{◌≡◌, List, ℤ, length};
+ghost use Rattle.card.specs.Reading as R;
 ghost use Rattle.trace_card.specs.Boundary as B;
 
 use crate::ANSWER;
-use crate::answer::{plan_from, put_answer};
+use crate::answer::{plan_from, put_answer, put_refusal};
 use card::Reached;
+use header::Refusal;
 use sheet::MOST_LAYERS;
 
 // Fills the answer of a call that reaches a plan.
-pub(crate) fn put_reached(answer: &mut [u64], reached: Reached) -> u64
+pub(crate) fn put_reached(answer: &mut [u64], reached: Result<Reached, Refusal>) -> u64
     requires { length answer.old ≡ B.answer_length }
-    ensures { (result ≡ (details_of reached.refusal).number) × (answer.new ≡ B.numbers (details_of reached.refusal) 0 reached.figure reached.plan.planes) }
+    ensures { (qs vs : List ℤ) → B.left result answer.new qs vs ≡ B.read_as (R.as_reading reached qs vs) }
 {
-    let refusal = reached.refusal;
-    let plan = reached.plan;
-    put_answer(answer, header::details_of(refusal), 0, reached.figure, plan)
+    match reached {
+        Ok(reached) => put_answer(answer, 0, reached.figure, reached.plan),
+        Err(refusal) => put_refusal(answer, refusal),
+    }
 }
 
 // Reads a card, truncated or whole, with a plan.

@@ -5,8 +5,7 @@ ghost use Rattle.card.specs.Writing as W;
 ghost use Rattle.trace_card.specs.Boundary as B;
 
 use crate::ANSWER;
-use crate::answer::put_answer;
-use card::Written;
+use crate::answer::{put_answer, put_refusal};
 use header::{Plan, Refusal};
 use sheet::{Curve, MOST_LAYERS};
 
@@ -31,7 +30,7 @@ fn write_by(
     coefficients: &mut [i32],
     values: &mut [i64],
     output: &mut [u8],
-) -> Written
+) -> Result<usize, Refusal>
     ensures { W.as_writing result coefficients.new values.new output.new ≡ B.writing_by samples.now rows cols levels curve step coefficients.old values.old output.old }
 {
     if curve == 0 {
@@ -60,8 +59,7 @@ fn write_by(
             output,
         );
     }
-    let refusal = no_curve(rows, cols);
-    Written { refusal, length: 0 }
+    Err(no_curve(rows, cols))
 }
 
 // Writes a sheet of rows by cols samples: coefficients, the values as they will be read, and the card at the front of the output.
@@ -93,15 +91,13 @@ pub fn trace_card_write(
         values,
         output,
     );
-    let refusal = written.refusal;
-    let none = Plan {
-        planes: [0; MOST_LAYERS],
-    };
-    put_answer(
-        answer,
-        header::details_of(refusal),
-        written.length as u64,
-        0,
-        none,
-    )
+    match written {
+        Ok(length) => {
+            let none = Plan {
+                planes: [0; MOST_LAYERS],
+            };
+            put_answer(answer, length as u64, 0, none)
+        }
+        Err(refusal) => put_refusal(answer, refusal),
+    }
 }

@@ -1,11 +1,10 @@
 -- Quantizing and rebuilding: what each call answers and leaves in the caller's slices, whatever it is given.
-use Rattle.std.specs.Prelude.{Bool, cond, ◌&&◌, List, ℕ, leb, ℤ}
+use Rattle.std.specs.Prelude.{Bool, cond, ◌&&◌, List, ℕ, leb, ℤ, Option, None, Some, Result, Ok, Err}
 use Rattle.sheet.specs.declared.Shape.{Shape}
 use Rattle.sheet.specs.declared.Curve.{Curve}
-use Rattle.layers.specs.declared.Scan.{Scan}
-use Rattle.layers.specs.declared.Scan.TheVariants.{Clear, OutAt}
-use Rattle.layers.specs.declared.Quantized.{Quantized}
-use Rattle.layers.specs.declared.Quantized.TheVariants.{Done, Refused, OutOfRange}
+use Rattle.layers.specs.declared.Place.{Place}
+use Rattle.layers.specs.declared.QuantizeError.{QuantizeError}
+use Rattle.layers.specs.declared.QuantizeError.TheVariants.{BadLengths, OutOfRange}
 use Rattle.sheet.specs.Limits.{step_most}
 use Rattle.sheet.specs.Lists.{at}
 use Rattle.sheet.specs.Sheet.{accepted}
@@ -30,20 +29,20 @@ rebuilding sh curve e more qs vs = cond (rebuildable sh e qs vs) (rebuilt (layer
 
 -- ---- quantizing: coefficients and values of the samples; where a size is not right or a sample is out of range, nothing changes
 pub record Quantizing : Type 0 where
-  pub answer : Quantized
+  pub answer : Result (Unit {0}) QuantizeError
   pub coefficients : List ℤ
   pub values : List ℤ
 
 unfoldable pub quantizable : Shape → ℕ → List ℤ → List ℤ → List ℤ → Bool
 quantizable sh e xs qs vs = settled sh e && (full sh xs && (full sh qs && full sh vs))
 
-abbrev pub after_scan : Shape → Curve → ℕ → List ℤ → List ℤ → List ℤ → Scan → Quantizing
-after_scan sh curve e xs qs vs Clear =
-    record { answer = Done; coefficients = coefs (layering sh curve) e xs; values = written (layering sh curve) e xs }
-after_scan sh curve e xs qs vs (OutAt row col) = record { answer = OutOfRange row col; coefficients = qs; values = vs }
+abbrev pub after_scan : Shape → Curve → ℕ → List ℤ → List ℤ → List ℤ → Option Place → Quantizing
+after_scan sh curve e xs qs vs None =
+    record { answer = Ok tt; coefficients = coefs (layering sh curve) e xs; values = written (layering sh curve) e xs }
+after_scan sh curve e xs qs vs (Some place) = record { answer = Err (OutOfRange place); coefficients = qs; values = vs }
 
 unfoldable pub quantizing : Shape → Curve → ℕ → List ℤ → List ℤ → List ℤ → Quantizing
 quantizing sh curve e xs qs vs =
     cond (quantizable sh e xs qs vs)
     (after_scan sh curve e xs qs vs (scanned sh.cols xs))
-    (record { answer = Refused; coefficients = qs; values = vs })
+    (record { answer = Err BadLengths; coefficients = qs; values = vs })

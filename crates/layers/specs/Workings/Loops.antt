@@ -6,6 +6,7 @@ use Rattle.sheet.specs.declared.Shape.{Shape}
 use Rattle.sheet.specs.declared.Curve.{Curve}
 use Rattle.sheet.specs.declared.Grid.{Grid}
 use Rattle.layers.specs.declared.Crossing.{Crossing}
+use Rattle.layers.specs.declared.walking.Layer.{Layer}
 use Rattle.sheet.specs.declared.Direction.{Direction}
 use Rattle.sheet.specs.declared.Direction.TheVariants.{Anchor, Across, Down, Between}
 use Rattle.sheet.specs.Limits.{points_most, levels_most, step_most, sample_most}
@@ -115,3 +116,20 @@ pub record OnLine (vs : List ℤ) (start stride n t s : ℕ) : Type 0 where
   pub inside : t < n
   pub held : start + (n - 1) * stride < length vs
   pub small : (u : ℕ) → u < n → u % (2 * s) ≡ 0 → Within value_most (on vs start stride u)
+
+-- ---- a walk, whatever the coefficients come from: a point's value is what its coefficient gives
+abbrev pub rebuilds : ℕ → (ℤ → ℕ → ℤ) → ℤ → ℕ → ℤ
+rebuilds e makes y p = rebuilt_from y (makes y p) e
+
+-- what a walk of a layer begins with: coefficients and values for each point, the values that predictions are made from at most as large as the coefficients ask
+pub record Begun (w : Layer) (most : ℕ) (CanMake : ℕ → Type 0) (held vs : List ℤ) : Type 0 where
+  pub step : w.step ≤ step_most
+  pub coefficients : length held ≡ points w.shape
+  pub values : length vs ≡ points w.shape
+  pub below : Below most w.shape w.curve w.grid.layer vs
+  pub can : (p : ℕ) → p < points w.shape → CanMake p
+
+-- and what it leaves of a part of the layer
+pub record Walked (w : Layer) (part : ℕ → Bool) (makes : ℤ → ℕ → ℤ) (held vs held' vs' : List ℤ) : Type 0 where
+  pub coefficients : held' ≡ part_by w.shape w.curve w.grid.layer part makes vs held
+  pub values : vs' ≡ part_by w.shape w.curve w.grid.layer part (rebuilds w.step makes) vs vs

@@ -1,5 +1,5 @@
 -- The calls: what each answers and leaves in the caller's slices, whatever it is given.
-use Rattle.std.specs.Prelude.{Bool, cond, ◌&&◌, List, ℕ, ◌-◌, ltb, leb, eqb, ℤ, length}
+use Rattle.std.specs.Prelude.{Bool, cond, ◌&&◌, List, ℕ, ◌-◌, ltb, leb, eqb, ℤ, length, Result}
 use Rattle.sheet.specs.Limits.{layers_most}
 use Rattle.sheet.specs.Sheet.{layers}
 use Rattle.layers.specs.Samples.{full}
@@ -7,7 +7,7 @@ use Rattle.header.specs.declared.Header.{Header}
 use Rattle.header.specs.declared.Plan.{Plan}
 use Rattle.header.specs.declared.Details.{Details}
 use Rattle.header.specs.declared.Refusal.{Refusal}
-use Rattle.header.specs.Refusals.{refusal, details_of}
+use Rattle.header.specs.Refusals.{refusal, details_in}
 use Rattle.header.specs.Header.{planes_of}
 use Rattle.header.specs.Plan.{no_plan, loads, first_over}
 use Rattle.header.specs.Opening.{well_formed}
@@ -21,8 +21,8 @@ pub record Loading : Type 0 where
   pub coefficients : List ℤ
 
 -- the code's answer in these terms
-abbrev pub as_loading : Refusal → List ℤ → Loading
-as_loading r qs = record { refused = details_of r; coefficients = qs }
+abbrev pub as_loading : {A : Type 0} → Result A Refusal → List ℤ → Loading
+as_loading r qs = record { refused = details_in r; coefficients = qs }
 
 abbrev pub not_loaded : List ℤ → Details → Loading
 not_loaded qs d = record { refused = d; coefficients = qs }

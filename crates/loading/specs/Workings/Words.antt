@@ -1,5 +1,5 @@
 -- What the private functions work with: the words that the planes of a card add up to, digit p at bit p, laid in layer order as `packing` lays them.
-use Rattle.std.specs.Prelude.{Bool, true, false, cond, not, ◌&&◌, ◌||◌, List, ◌≡◌, ℕ, suc, ◌+◌, ◌*◌, ◌-◌, ◌/◌, ◌%◌, ◌^◌, ◌<◌, ◌≤◌, ltb, leb, eqb, ℤ, length, get_or}
+use Rattle.std.specs.Prelude.{true, false, cond, ◌&&◌, List, ◌≡◌, ℕ, ◌+◌, ◌*◌, ◌-◌, ◌/◌, ◌%◌, ◌^◌, ◌<◌, ◌≤◌, ltb, leb, ℤ, length, get_or, Result, Ok, Err}
 use Rattle.digits.specs.Digits.{value}
 use Rattle.digits.specs.Groups.{bits_of}
 use Rattle.sheet.specs.declared.Shape.{Shape}
@@ -9,10 +9,8 @@ use Rattle.layers.specs.Layering.{own_layer}
 use Rattle.header.specs.declared.Header.{Header}
 use Rattle.header.specs.Header.{places_most, cell_bytes, cell_points, plane_cells}
 use Rattle.packing.specs.Workings.Words.{block_start, words_most}
-use Rattle.loading.specs.InBytes.{bit_at, fine_bits, among_top, bit_of, loaded, bad_slot, first_bad, word_read}
-use Rattle.loading.specs.declared.Placed.{Placed}
-use Rattle.loading.specs.declared.Loaded.{Loaded}
-use Rattle.loading.specs.declared.Loaded.TheVariants.{Fine, Bad}
+use Rattle.loading.specs.InBytes.{bit_of, loaded, bad_slot, first_bad, word_read}
+use Rattle.loading.specs.declared.BadLayer.{BadLayer}
 use Rattle.order.specs.CardOrder.{slot_layer, slots, cells_before}
 use Rattle.order.specs.Workings.{slot_no}
 
@@ -64,23 +62,19 @@ halved table = tabulate half_bits (λ i. get_or table i 0 / 2)
 unfoldable pub added : List ℕ → List ℕ → ℕ → ℕ → ℕ
 added table bs from i = get_or table (4 * half_at bs from (i / 4) + i % 4) 0
 
--- ---- one slot: is the plane at `from` fine or not asked for, and the words after it
-unfoldable pub slot_fine : List ℕ → ℕ → ℕ → ℕ → ℕ → ℕ → ℕ → Bool
-slot_fine bs from n c count want p = not (among_top count want p) || fine_bits (bit_at bs from) n c (eqb (suc p) count)
-
-unfoldable pub slot_words : List ℕ → ℕ → ℕ → ℕ → ℕ → ℕ → ℕ → List ℕ → ℕ → List ℕ
-slot_words bs from n c count want p ws start =
-    cond (among_top count want p && slot_fine bs from n c count want p) (words_with ws start (cell_points * c) p (bit_at bs from)) ws
-
 -- every plane of the plan is in the bytes
 abbrev pub AllThere : Header → ℕ → List ℕ → (ℕ → ℕ) → Type 0
 AllThere h long bs plan =
     (k p : ℕ) → k < layers h.shape → loaded h plan k p ≡ true
     → long + cell_bytes * (cells_before h k p + plane_cells h.shape k) ≤ length bs
 
-abbrev pub loaded_as : Header → ℕ → List ℕ → (ℕ → ℕ) → Loaded
+-- the refusal of a layer
+abbrev pub bad : ℕ → BadLayer
+bad k = record { 0 = k }
+
+abbrev pub loaded_as : Header → ℕ → List ℕ → (ℕ → ℕ) → Result (Unit {0}) BadLayer
 loaded_as h long bs plan =
-    cond (ltb (first_bad h long bs plan) (slots h)) (Bad (slot_layer h (first_bad h long bs plan))) Fine
+    cond (ltb (first_bad h long bs plan) (slots h)) (Err (bad (slot_layer h (first_bad h long bs plan)))) (Ok tt)
 
 -- what layer k's plane at place p has added to the word of point i after t slots
 unfoldable pub share : Header → ℕ → List ℕ → (ℕ → ℕ) → ℕ → ℕ → ℕ → ℕ → ℕ
@@ -97,16 +91,27 @@ pub record Partly (h : Header) (long : ℕ) (bs : List ℕ) (plan : ℕ → ℕ)
 abbrev pub FineBefore : Header → ℕ → List ℕ → (ℕ → ℕ) → ℕ → ℕ → Type 0
 FineBefore h long bs plan k p = (j : ℕ) → j < k → bad_slot h long bs plan (slot_no h j p) ≡ false
 
--- what checking the planes at place p answers: the cells up to their end where all are fine, or the first layer whose plane is bad
-abbrev pub PlaceChecked : Header → ℕ → List ℕ → (ℕ → ℕ) → ℕ → Placed → Type 0
-PlaceChecked h long bs plan p (Placed.Fine c) = (c ≡ cells_before h (layers h.shape) p) × FineBefore h long bs plan (layers h.shape) p
-PlaceChecked h long bs plan p (Placed.Bad k) = (k < layers h.shape) × (bad_slot h long bs plan (slot_no h k p) ≡ true) × FineBefore h long bs plan k p
+-- what a walk over the planes at place p answers: the cells up to their end where all are fine, or the first layer whose plane is bad
+abbrev pub PlaceChecked : Header → ℕ → List ℕ → (ℕ → ℕ) → ℕ → Result ℕ BadLayer → Type 0
+PlaceChecked h long bs plan p (Ok c) = (c ≡ cells_before h (layers h.shape) p) × FineBefore h long bs plan (layers h.shape) p
+PlaceChecked h long bs plan p (Err b) = (b.0 < layers h.shape) × (bad_slot h long bs plan (slot_no h b.0 p) ≡ true) × FineBefore h long bs plan b.0 p
 
--- and where they are added too: the words after them
-abbrev pub PlaceRead : Header → ℕ → List ℕ → (ℕ → ℕ) → ℕ → Placed → List ℕ → Type 0
-PlaceRead h long bs plan p (Placed.Fine c) ws =
-    PlaceChecked h long bs plan p (Placed.Fine c) × Partly h long bs plan (slot_no h (layers h.shape) p) ws
-PlaceRead h long bs plan p (Placed.Bad k) ws = PlaceChecked h long bs plan p (Placed.Bad k)
+-- words that are kept, and are those after t slots
+pub record Holding (Kept : List ℕ → Type 0) (h : Header) (long : ℕ) (bs : List ℕ) (plan : ℕ → ℕ) (t : ℕ) : Type 0 where
+  pub words : List ℕ
+  pub kept : Kept words
+  pub partly : Partly h long bs plan t words
+
+-- m bytes of a plane at some place can be taken: they are there, and the words that are kept have room for their bits from `start` on
+pub record Takes (Kept : List ℕ → ℕ → Type 0) (bs : List ℕ) (from m start : ℕ) : Type 0 where
+  pub words : List ℕ
+  pub place : ℕ
+  pub kept : Kept words place
+  pub low : place < places_most
+  pub there : from + m ≤ length bs
+  pub room : start + 8 * m ≤ length words
+  pub few : m ≤ cell_bytes * words_most
+  pub small : (i : ℕ) → get_or words i 0 < 2 ^ 31
 
 -- the words of a reading stand in ws
 pub record Read (h : Header) (long : ℕ) (bs : List ℕ) (plan : ℕ → ℕ) (ws : List ℕ) : Type 0 where

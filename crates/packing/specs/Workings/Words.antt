@@ -3,6 +3,7 @@
 -- layer's words fill whole cells, spare ones being the word of 0, so that a byte of a plane is one bit of eight neighbouring words. Of each eight
 -- words the bits are turned into rows before the planes are put.
 use Rattle.std.specs.Prelude.{cond, List, ◌++◌, ◌≡◌, ℕ, suc, ◌+◌, ◌*◌, ◌-◌, ◌/◌, ◌%◌, ◌^◌, max, ◌<◌, ◌≤◌, ltb, eqb, ℤ, pos, nat_abs, ◌+ℤ◌, ◌-ℤ◌, length, get_or}
+use Rattle.std.specs.List.{between}
 use Rattle.std.proofs.Math.Option.{some}
 use Rattle.std.proofs.lemmas.List.Edits.{sets}
 use Rattle.digits.specs.Digits.{holds, first_from, away}
@@ -33,6 +34,10 @@ block_start sh k = total (λ j. cell_points * plane_cells sh j) k
 
 abbrev pub words_most : ℕ
 words_most = cell_points * place_cells_most
+
+-- ss has where the words of each layer begin, and behind the last layer, where its block ends
+pub record Starts (sh : Shape) (ss : List ℕ) : Type 0 where
+  pub at : (k : ℕ) → k ≤ layers sh → get_or ss k 0 ≡ block_start sh k
 
 -- the words of the coefficients qs stand in ws, and past the last block the word of 0
 pub record Gathered (sh : Shape) (qs : List ℤ) (ws : List ℕ) : Type 0 where
@@ -83,24 +88,27 @@ pub record TextFits (h : Header) (ls : List ℕ) : Type 0 where
   pub losses : text_most + length (joined ls) ≤ text_room
   pub text : length (header_text h (some ls)) ≤ text_room
 
--- the number of a word, and the fewest digits that hold those of n words from `start` on; 24 where 23 do not
+-- layer k's words
+abbrev pub layer_words : Shape → List ℕ → ℕ → List ℕ
+layer_words sh ws k = between (block_start sh k) (block_start sh k + layer_size sh k) ws
+
+-- the number of a word, and the fewest digits that hold those of some words; 24 where 23 do not
 abbrev pub number_of : ℕ → ℤ
 number_of w = pos w -ℤ pos offset
 
-unfoldable pub count_of : List ℕ → ℕ → ℕ → ℕ
-count_of ws start n = first_from (λ d. all_below (λ i. holds d (number_of (get_or ws (start + i) 0))) n) (suc places_most) 0
+unfoldable pub count_of : List ℕ → ℕ
+count_of ws = first_from (λ d. all_below (λ i. holds d (number_of (get_or ws i 0))) (length ws)) (suc places_most) 0
 
 unfoldable pub count_at : Shape → List ℕ → ℕ → ℕ
-count_at sh ws k = cond (ltb k (layers sh)) (count_of ws (block_start sh k) (layer_size sh k)) 0
+count_at sh ws k = cond (ltb k (layers sh)) (count_of (layer_words sh ws k)) 0
 
--- n words of 23 digits from `start` on
-pub record Block (ws : List ℕ) (start n : ℕ) : Type 0 where
-  pub inside : start + n ≤ length ws
-  pub small : (i : ℕ) → i < n → get_or ws (start + i) 0 < 2 ^ places_most
+-- words of 23 digits
+pub record Small (ws : List ℕ) : Type 0 where
+  pub below : (i : ℕ) → i < length ws → get_or ws i 0 < 2 ^ places_most
 
 -- the largest distance met between the d low digits of their numbers and their middle; and that of layer k's words
-unfoldable pub measured : List ℕ → ℕ → ℕ → ℕ → ℕ
-measured ws start n d = largest (λ i. away d (number_of (get_or ws (start + i) 0))) n
+unfoldable pub measured : List ℕ → ℕ → ℕ
+measured ws d = largest (λ i. away d (number_of (get_or ws i 0))) (length ws)
 
 abbrev pub measured_at : Shape → List ℕ → ℕ → ℕ → ℕ
-measured_at sh ws k d = measured ws (block_start sh k) (layer_size sh k) d
+measured_at sh ws k d = measured (layer_words sh ws k) d

@@ -19,7 +19,8 @@ use Rattle.header.proofs.Total.{plane-room, plane-most}
 use Rattle.packing.specs.Planes.{all_held}
 use Rattle.loading.specs.InBytes.{bit_at, fine, coefs_plus}
 use Rattle.loading.specs.Workings.Calls.{done}
-use Rattle.loading.proofs.Loads.{loadable-right, loadable-here, loadable-full, before-is, fine-is, add-cut, add-unheld, add-bad, add-fine}
+use Rattle.loading.proofs.WordSums.{fine-is}
+use Rattle.loading.proofs.Loads.{loadable-right, loadable-here, loadable-full, before-is, add-cut, add-unheld, add-bad, add-fine}
 use Rattle.layers.proofs.Answers.{full-long}
 use Rattle.order.proofs.Slots.{cells-few}
 use Rattle.loading.proofs.refining.add_named.Statement.{statement}
@@ -92,7 +93,7 @@ fine-here : (f : tie.After-is_fine) → (let s = S (Z f.before) in fine s.args.h
 fine-here f =
     let z = Z f.before in
     let s = S z in
-    fine-is s.args.header s.args.layer s.args.p s.args.at (Bs s) f.is_fine.result
+    fine-is s.args.header s.args.at (Bs s) (λ _. 0) s.args.layer s.args.p f.is_fine.result
     (s.args.at + cell_bytes * z.cells_before.result)
     f.before.layer_size-n.result
     z.before.plane_cells-cells.result

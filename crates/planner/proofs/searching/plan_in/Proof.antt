@@ -1,5 +1,5 @@
 -- The plan is the one that is read off, its cells are those that it was read off from, and the entry there is what it stands at.
-use mathlib.Core.Path.{◌≡◌, refl, ap}
+use mathlib.Core.Path.{◌≡◌, ap}
 use Prim.Native.Nat.{ℕ, ◌+◌, ◌*◌}
 use native.Mathlib.Nat.{le_refl}
 use native.Mathlib.Omega.{arith}
@@ -36,7 +36,7 @@ add-figure-2 : tie.Need-overflow_add-figure-2
 add-figure-2 c = let s = S c in omega (arith, entry s, s.requires.1.1, (right-yes s.args.header s.requires.0.0).step)
 
 returns : tie.Need-returns
-returns c = let s = S c in (c.before.before.trace-planes.ensures, (refl, omega arith, ap (λ (m : ℕ). s.args.header.step + m) (entry s)))
+returns c = let s = S c in (c.before.before.trace-planes.ensures, (omega arith, ap (λ (m : ℕ). s.args.header.step + m) (entry s)))
 
 pub plan_in_spec : {M : Type 1} → statement M
 plan_in_spec =

@@ -1,0 +1,22 @@
+-- The lengths that it looks at, or 3; and then what the call below it answered, told in numbers.
+use Rattle.std.proofs.Common.{ap, ◌∙◌}
+use Rattle.header.specs.declared.Plan.{Plan}
+use Rattle.card.specs.Refining.{refining}
+use Rattle.trace_card.specs.Boundary.{read_as, refine_call}
+use Rattle.trace_card.proofs.Lengths.{no_answer, no-plan, with-plan}
+use Rattle.trace_card.proofs.reading.trace_card_refine.Goals as goal
+
+pub returns-then-answer-ne-ANSWER : goal.returns-then-answer-ne-ANSWER
+unfolding refine_call
+returns-then-answer-ne-ANSWER c = no_answer _ _ c.args.answer.now c.if-answer-ne-ANSWER.true
+
+pub returns-then-plan-ne-MOST_LAYERS : goal.returns-then-plan-ne-MOST_LAYERS
+unfolding refine_call
+returns-then-plan-ne-MOST_LAYERS c = no-plan _ _ c.args.answer.now c.args.plan.now c.if-answer-ne-ANSWER.false c.if-plan-ne-MOST_LAYERS.true
+
+pub returns : goal.returns
+unfolding refine_call
+returns c =
+    c.put_reached.ensures c.refine-reached.new.coefficients c.refine-reached.new.values
+    ∙ ap read_as (c.refine-reached.ensures ∙ ap (λ (p : Plan). refining c.args.coefficients.now c.args.values.now c.args.card.now p c.args.layer) c.plan_from.ensures)
+    ∙ with-plan _ _ c.args.answer.now c.args.plan.now c.if-answer-ne-ANSWER.false c.if-plan-ne-MOST_LAYERS.false
