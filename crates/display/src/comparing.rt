@@ -21,7 +21,7 @@ fn row_marks(page: &mut [u8], at: usize, marks: &[u8])
     page[at + marks.len()] = b'\n';
 }
 
-// The lines of all rows, at the front of the page. Not by `chunks`, which takes no width of 0: a refused card's sheet has no columns.
+// The lines of all rows, at the front of the page. Not by `chunks`, which takes no width of 0, as rows of no points have.
 fn all_marks(page: &mut [u8], rows: usize, cols: usize, marks: &[u8])
     requires { (rows * cols ≡ length marks.now) × (length marks.now + rows ≤ length page.old) × W.Marks marks.now }
     ensures { page.new ≡ sets page.old 0 (C.marks_text rows cols marks.now) }

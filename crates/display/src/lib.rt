@@ -58,11 +58,11 @@ pub const BUFFER: usize = 40000;
 // How much more is looked at in one turn.
 pub const CHUNK: usize = 4096;
 
-// An input: its bytes that were read, and whether a byte 10 follows them. That is looked for only where the bytes fill the buffer and end before a
+// An input: how many of its bytes were read, and whether a byte 10 follows them. That is looked for only where the bytes fill the buffer and end before a
 // line's byte 10; otherwise nothing hangs on it.
 #[derive(Clone, Copy)]
-pub struct Input<'a> {
-    pub bytes: &'a [u8],
+pub struct Input {
+    pub length: usize,
     pub ends: bool,
 }
 

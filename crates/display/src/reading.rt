@@ -1,5 +1,5 @@
 // Reading a card from a file. No contract can speak of what is read, so these lines are to be read too.
-ghost use Rattle.std.specs.Prelude.{◌≤◌, length};
+ghost use Rattle.io.specs.Counts.{IsPrefixLen};
 
 use crate::answers::{ahead_of, opening_number};
 use crate::{Ahead, BUFFER, CHUNK, Input};
@@ -23,13 +23,12 @@ fn ends_later(file: i32) -> bool {
     false
 }
 
-// Reads a file into a buffer of `BUFFER` bytes, as far as it goes, and answers the part that was read. Of it is only promised that the buffer has room for it:
-// no contract can speak of what a file holds.
-pub fn read(file: i32, buffer: &mut [u8]) -> Input<'_>
-    ensures { length result.bytes.now ≤ length buffer.old }
+// Reads a file into a buffer of `BUFFER` bytes, as far as it goes. Of what was read it is only promised that it is within the buffer: no contract can
+// speak of what a file holds. How much it is, is answered and no slice, of which no clause could say that it is the buffer's.
+pub fn read(file: i32, buffer: &mut [u8]) -> Input
+    ensures { IsPrefixLen result.length buffer.new }
 {
     let length = io::read_full(file, buffer);
-    let bytes = &buffer[..length];
-    let ends = BUFFER <= length && opening_number(bytes) == 5 && ends_later(file);
-    Input { bytes, ends }
+    let ends = BUFFER <= length && opening_number(&buffer[..length]) == 5 && ends_later(file);
+    Input { length, ends }
 }

@@ -64,7 +64,7 @@ module _ {h : Header} (r : WellFormed h) (ls : List ℕ) (n : ℕ → ℕ) where
       ]
 
   -- over the card's layers, and over all places
-  figure-here : h.step + standing h ls n (layers h.shape) ≡ figure_of h ls n
+  pub figure-here : h.step + standing h ls n (layers h.shape) ≡ figure_of h ls n
   unfolding figure_of
   figure-here = ap (λ (m : ℕ). h.step + m) (stands (layers h.shape) (le_refl _))
 

@@ -11,14 +11,15 @@ ghost use Rattle.figure.specs.Workings as W;
 use crate::rules::{carried, charge, rule_of};
 use header::{Header, MOST_LOSSES, Plan, Refusal};
 
-// What stands is carried from layer to layer, and those past the last leave it as it is; `first` is where the layer's numbers begin.
+// What stands is carried from layer to layer; `first` is where the layer's numbers begin.
 fn figure_of(header: Header, losses: &[u32], plan: Plan) -> u64
     requires header_value { O.well_formed header ≡ true }
     requires plan_value { P.first_over (Hd.planes_of header) (P.loads plan) ≡ layers_most }
     ensures { result ≡ F.figure_of header losses.now (P.loads plan) }
 {
-    let counts = header.planes;
-    let loaded = plan.planes;
+    let layers = sheet::layer_count(header.shape);
+    let counts = &header.planes[..layers];
+    let loaded = &plan.planes[..layers];
     let mut first: usize = 0;
     let mut standing: u64 = 0;
     for (k, (count, n)) in counts.iter().zip(loaded.iter()).enumerate() {

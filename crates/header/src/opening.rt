@@ -6,6 +6,7 @@ ghost use Rattle.std.proofs.Math.Option.{none};
 ghost use Rattle.sheet.specs.Sheet as S;
 ghost use Rattle.text.specs.Workings as Wk;
 ghost use Rattle.text.specs.Line as T;
+ghost use Rattle.header.specs.Header as Hd;
 ghost use Rattle.header.specs.Losses as L;
 ghost use Rattle.header.specs.Opening as O;
 ghost use Rattle.header.specs.Workings as W;
@@ -84,21 +85,25 @@ fn curve_line(bytes: &[u8], at: usize) -> Result<Line<Curve>, Refusal>
     })
 }
 
-// Line 6: one count for each layer, 0 past the last.
-fn planes_line(bytes: &[u8], shape: Shape, at: usize) -> Result<Line<[u64; MOST_LAYERS]>, Refusal>
+// Line 6: one count for each layer, 0 past the last; and the cells of all their planes, by the cells that the counts are tested by.
+fn planes_line(
+    bytes: &[u8],
+    shape: Shape,
+    at: usize,
+) -> Result<(Line<[u64; MOST_LAYERS]>, u64), Refusal>
     requires { S.accepted shape ≡ true }
-    ensures { MatchResult result (λ l. W.PlanesRead l bytes.now shape at) (λ r. (curve : Curve) (step : ℕ) → O.opening_planes bytes.now shape curve step at ≡ O.not_opened (R.details_of r)) }
+    ensures { MatchResult result (λ l. W.PlanesRead l.0 bytes.now shape at × (l.1 ≡ Hd.cells_of shape l.0.value)) (λ r. (curve : Curve) (step : ℕ) → O.opening_planes bytes.now shape curve step at ≡ O.not_opened (R.details_of r)) }
 {
     let line = keyed_line(bytes, 6, at, b"planes=")?;
-    let mut value = limits(spans_of(shape));
+    let spans = spans_of(shape);
+    let mut value = limits(spans);
     let layers = sheet::layer_count(shape);
     if !text::read_joined(line.value, &mut value[..layers]) {
         return Err(Refusal::BadLine(6));
     }
-    Ok(Line {
-        value,
-        length: line.length,
-    })
+    let cells = cells_of(spans, value);
+    let length = line.length;
+    Ok((Line { value, length }, cells))
 }
 
 // The first six lines: line 2 has at most so many columns that the points are at most 8,192.
@@ -120,9 +125,8 @@ fn open_first(bytes: &[u8]) -> Result<Opened, Refusal>
         cols.value as usize,
         levels.value as usize,
     );
-    let last = planes_line(bytes, shape, at)?;
+    let (last, cells) = planes_line(bytes, shape, at)?;
     let planes = last.value;
-    let cells = cells_of(spans_of(shape), planes);
     Ok(Opened {
         header: Header {
             shape,

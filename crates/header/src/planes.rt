@@ -86,8 +86,9 @@ pub fn total_cells(shape: Shape, planes: [u64; MOST_LAYERS]) -> u64
 pub fn is_well_formed(header: Header) -> bool
     ensures { result ≡ O.well_formed header }
 {
+    if MOST_STEP < header.step {
+        return false;
+    }
     let spans = spans_of(header.shape);
-    header.step <= MOST_STEP
-        && counts_fit(header.shape, spans, header.planes)
-        && header.cells == cells_of(spans, header.planes)
+    counts_fit(header.shape, spans, header.planes) && header.cells == cells_of(spans, header.planes)
 }

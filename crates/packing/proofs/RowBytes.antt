@@ -1,10 +1,6 @@
 -- Rows of eight words: a row is three bytes of packed bits, each below 256, so a byte at place p is the packing of the bits at p; and rows put for each eight words in turn are read from words that still stand.
 use mathlib.Core.Path.{◌≡◌, refl, sym, ap, ap₂, ◌∙◌}
-use mathlib.Core.List.{List, reverse}
-use Rattle.std.specs.List.{between}
-use Rattle.std.proofs.lemmas.Grind.{get_or_default_zero}
-use Rattle.std.proofs.lemmas.List.{get_or-reverse, length-reverse}
-use Rattle.std.proofs.lemmas.List.Edits.{get_or-between, length-between}
+use mathlib.Core.List.{List}
 use mathlib.Core.Logic.{inr}
 use Prim.Native.Nat.{ℕ, zero, suc, ◌+◌, ◌-◌, ◌*◌, ◌/◌, ◌%◌, ◌^◌, ◌<◌, ◌≤◌}
 use native.Mathlib.Omega.{arith}
@@ -54,17 +50,6 @@ module _ (ws : List ℕ) (first r : ℕ) where
   row-all m e =
       let all : (p : ℕ) → last m p ≡ packed 8 (λ j. bit_in ws p (first + j)) = λ p. packed_all (bit_in ws p) first m (last m p) e refl in
       omega (arith, all r, all (r + 8), all (r + 16))
-
--- the eight words from the last down, as they come
-pub eight-down : (ws : List ℕ) (first m w : ℕ) → first + 8 ≤ length ws → m < length (reverse (between first (first + 8) ws)) → w ≡ get_or (reverse (between first (first + 8) ws)) m w
-    → (m < 8) × (w ≡ get_or ws (first + 7 - m) 0)
-eight-down ws first m w h l e =
-    let part = between first (first + 8) ws in
-    let long : length part ≡ 8 = length-between ws first (first + 8) h ∙ omega arith in
-    let few : m < 8 = omega (arith, l, long, length-reverse part) in
-    let inside : m < length part = omega (arith, long) in
-    let place : first + (length part - 1 - m) ≡ first + 7 - m = omega (arith, long) in
-    (few, e ∙ get_or-reverse part m w inside ∙ get_or-between ws first (first + 8) (length part - 1 - m) w (omega (arith, long)) ∙ ap (λ (i : ℕ). get_or ws i w) place ∙ get_or_default_zero ws (first + 7 - m) w (omega arith))
 
 -- ---- a row's byte
 module _ (ws : List ℕ) (first : ℕ) where

@@ -14,8 +14,9 @@ fn row_of(words: &[u32], first: usize, r: u64) -> u32
     ensures { result ≡ W.row_of words.now first r }
 {
     let mut row: u32 = 0;
-    for word in words[first..first + 8].iter().rev() {
-        let bits = *word >> r;
+    // By place: over the slice backwards no edit of this line could take a word twice.
+    for j in 0..8usize {
+        let bits = words[first + 7 - j] >> r;
         row = 2 * row + bits % 2 + 256 * ((bits >> 8) % 2) + 65536 * ((bits >> 16) % 2);
     }
     row

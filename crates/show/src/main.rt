@@ -13,7 +13,8 @@ const FIRST_NAME: usize = 1;
 fn show(file: i32) {
     let mut buffer = [0u8; BUFFER];
     let input = display::read(file, &mut buffer);
-    display::show(input.bytes, input.ends);
+    let n = input.length;
+    display::show(&buffer[..n], input.ends);
 }
 
 // Shows the card that is named, or says that there is none.

@@ -3,6 +3,7 @@
 
 ghost use Rattle.std.specs.Prelude.{◌≡◌};
 ghost use Rattle.std.specs.Process.{exit_status};
+ghost use Rattle.io.specs.Counts.{IsPrefixLen};
 ghost use Rattle.trace.specs.Words as W;
 ghost use Rattle.trace.specs.declared.Ending.TheVariants.{NoWord, NoFile};
 
@@ -52,12 +53,6 @@ const FIRST_NAME: usize = 2;
 
 const SECOND_NAME: usize = 3;
 
-const USAGE: &[u8] = b"usage: trace WORD < CARD, or trace compare CARD CARD
-  show     sizes, planes loaded, figure and values
-  roll     the figure, then a line for each value: row, column, value
-  compare  how many points are apart, the first, then a line for each row: 0 agree, 1 apart
-";
-
 // The word that a text is.
 #[tactic(auto, using(crate::proofs::Spelled::spelling))]
 fn word_of(text: &[u8]) -> Option<Word>
@@ -98,11 +93,26 @@ fn ending_of(number: u64) -> Ending
     }
 }
 
-// Says which words there are.
+// Says which words there are, line by line: where few bytes are taken, whole lines are.
 fn words() -> Ending
     ensures { result ≡ NoWord }
 {
-    io::write_all(STDERR, USAGE);
+    io::write_all(
+        STDERR,
+        b"usage: trace WORD < CARD, or trace compare CARD CARD\n",
+    );
+    io::write_all(
+        STDERR,
+        b"  show     sizes, planes loaded, figure and values\n",
+    );
+    io::write_all(
+        STDERR,
+        b"  roll     the figure, then a line for each value: row, column, value\n",
+    );
+    io::write_all(
+        STDERR,
+        b"  compare  how many points are apart, the first, then a line for each row: 0 agree, 1 apart\n",
+    );
     Ending::NoWord
 }
 
@@ -112,7 +122,8 @@ fn print<F: Fn(&[u8], bool) -> u64>(what: F) -> Ending
 {
     let mut buffer = [0u8; BUFFER];
     let input = display::read(STDIN, &mut buffer);
-    ending_of(what(input.bytes, input.ends))
+    let n = input.length;
+    ending_of(what(&buffer[..n], input.ends))
 }
 
 // How many arguments there are behind the word. The turns are more than any arguments use up. They are asked for by number: `std::env::args` needs memory, and
@@ -149,7 +160,9 @@ fn not_read(rt: &impl Env, i: usize) -> Ending
 }
 
 // Reads a file that was opened, and closes it.
-fn take(file: File, buffer: &mut [u8]) -> Input<'_> {
+fn take(file: File, buffer: &mut [u8]) -> Input
+    ensures { IsPrefixLen result.length buffer.new }
+{
     display::read(file.as_raw_fd(), buffer)
 }
 
@@ -165,7 +178,9 @@ fn compare(rt: &(impl Env + Files<File = File>)) -> Ending {
     };
     let mut buffer2 = [0u8; BUFFER];
     let input2 = take(file2, &mut buffer2);
-    ending_of(display::compare(input1.bytes, input1.ends, input2.bytes, input2.ends))
+    let n1 = input1.length;
+    let n2 = input2.length;
+    ending_of(display::compare(&buffer1[..n1], input1.ends, &buffer2[..n2], input2.ends))
 }
 
 // Does what the first argument says, of which the others are names. `show` and `roll` stand in closures: handed on by themselves, as functions of another

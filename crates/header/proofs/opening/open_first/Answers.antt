@@ -2,9 +2,6 @@
 use Rattle.std.proofs.Common.{ℕ, List, ap, arith, sym, ◌∙◌}
 use Rattle.std.proofs.lemmas.Result.{err_from_is_err_and}
 use Rattle.header.specs.Header.{ascii_from}
-use Rattle.header.specs.Workings.{cells_by}
-use Rattle.header.proofs.Total.{span-most}
-use Rattle.header.proofs.Cells.{cells-by}
 use Rattle.header.proofs.Taking.{number_ends, curve_ends}
 use Rattle.header.proofs.Firsts.{rows_refused, cols_refused, levels_refused, curve_line_refused, step_refused, to_planes, told₁, shape_accepted}
 use Rattle.header.proofs.opening.open_first.Goals as goal
@@ -67,14 +64,9 @@ returns-in_err-last c =
     let last = c.in_err-last.ensures c.in_ok-curve.curve.value c.in_ok-step.step.value in
     rw (p.1, p.2) (sym (there ∙ (rw c.sheet_of-shape.ensures at last)))
 
-pub cells_of-cells-requires : goal.cells_of-cells-requires
-cells_of-cells-requires c = λ k. (rw c.spans_of.ensures (span-most c.sheet_of-shape.result k), c.in_ok-last.ensures.few k)
-
 pub returns : goal.returns
 unfolding ascii_from
 returns c =
-    let accepted = shape_accepted c.args.bytes.now _ _ c.in_ok-rows.ensures _ _ c.in_ok-cols.ensures _ _ c.in_ok-levels.ensures in
     let there = to_planes c.args.bytes.now _ _ c.in_ok-rows.ensures _ _ c.in_ok-cols.ensures _ _ c.in_ok-levels.ensures _ _ c.in_ok-curve.ensures _ _ c.in_ok-step.ensures in
-    let last = c.in_ok-last.ensures.told c.in_ok-curve.curve.value c.in_ok-step.step.value in
-    let named = c.cells_of-cells.ensures ∙ ap (λ (spans : List ℕ). cells_by spans c.in_ok-last.last.value) c.spans_of.ensures ∙ cells-by c.sheet_of-shape.result (rw c.sheet_of-shape.ensures accepted) c.in_ok-last.last.value in
-    rw (named, c.sheet_of-shape.ensures) (sym (there ∙ (rw c.sheet_of-shape.ensures at last)))
+    let last = c.in_ok-last.ensures.0.told c.in_ok-curve.curve.value c.in_ok-step.step.value in
+    rw (c.in_ok-last.ensures.1, c.sheet_of-shape.ensures) (sym (there ∙ (rw c.sheet_of-shape.ensures at last)))
