@@ -14,7 +14,7 @@ fn row_of(words: &[u32], first: usize, r: u64) -> u32
     ensures { result ≡ W.row_of words.now first r }
 {
     let mut row: u32 = 0;
-    // By place: over the slice backwards no edit of this line could take a word twice.
+    // By place: over the slice backwards an edit that takes words twice changes the iterator, and there a right one is refused too.
     for j in 0..8usize {
         let bits = words[first + 7 - j] >> r;
         row = 2 * row + bits % 2 + 256 * ((bits >> 8) % 2) + 65536 * ((bits >> 16) % 2);
