@@ -24,7 +24,7 @@ fn ends_later(file: i32) -> bool {
 }
 
 // Reads a file into a buffer of `BUFFER` bytes, as far as it goes. Of what was read it is only promised that it is within the buffer: no contract can
-// speak of what a file holds. How much it is, is answered and no slice, of which no clause could say that it is the buffer's.
+// speak of what a file holds. It answers how much that is, and no slice: that a slice is the buffer's own, the check finds no proof of.
 pub fn read(file: i32, buffer: &mut [u8]) -> Input
     ensures { IsPrefixLen result.length buffer.new }
 {
